@@ -1,0 +1,5 @@
+-- The laws of `geometry`, by subject.
+pub mod Floor
+pub mod Size
+pub mod Signed
+pub mod Area

@@ -1,0 +1,2 @@
+-- The laws of `geometry`, by subject.
+pub mod Laws

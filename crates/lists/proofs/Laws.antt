@@ -1,0 +1,7 @@
+-- The laws of lists, by subject.
+pub mod Fills
+pub mod Front
+pub mod Scans
+pub mod Gathered
+pub mod Behind
+pub mod All

@@ -1,0 +1,2 @@
+-- The laws of lists, by subject.
+pub mod Laws
