@@ -3,3 +3,4 @@ pub mod Floor
 pub mod Size
 pub mod Signed
 pub mod Area
+pub mod Boxes

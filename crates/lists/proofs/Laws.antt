@@ -5,3 +5,4 @@ pub mod Scans
 pub mod Gathered
 pub mod Behind
 pub mod All
+pub mod Tests

@@ -1,5 +1,5 @@
 -- Laws of `floorOf`, one for each way through `floor` and `size_up`. A finite x is n / d in size, with n = m * up e and d = down e. Assumes nothing.
-use mathlib.Core.Path.{_≡_, refl, sym, ap, _∙_, subst}
+use mathlib.Core.Path.{_≡_, refl, sym, ap, _∙_}
 use mathlib.Core.Bool.{Bool, true, false, not, _&&_, _||_, cond, true≢false}
 use Prim.Native.Nat.{ℕ, zero, suc, _+_, _-_, _*_, _/_, _%_, _^_, _≤_, _<_, zero-le, min}
 use native.Mathlib.Nat.{mul-right-comm, mul-one, mul-lt-mul-of-pos-right, div-lt-iff-lt-mul, le-div-iff-mul-le, div-one, mul-le-mul-right, zero-div, le-refl, le-of-lt, le-of-eq, le-trans}
@@ -17,14 +17,6 @@ use lib.Ieee.Fits.{down-pos, and-l, and-r}
 use lib.Ieee.Exact.{HasValue}
 use lib.Ieee.Back.{round-whole}
 use Rattle.geometry.specs.Number.{roundedUp, sizeUp, floorOf}
-
--- ---- a test's answer as a fact
-
-pub holds : {b : Bool} → b ≡ true → T b
-holds h = subst T (sym h) tt
-
-pub fails : {b : Bool} → b ≡ false → T (not b)
-fails h = subst (λ (a : Bool). T (not a)) (sym h) tt
 
 abbrev nought : Float
 nought = fin false 0 (pos 0)

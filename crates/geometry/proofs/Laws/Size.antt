@@ -1,7 +1,7 @@
 -- The ways through `size`: below zero, a zero of either sign, and all others. A zero that an f64 holds is written in one way for each sign.
 -- Assumes nothing.
 use mathlib.Core.Path.{_≡_, refl, sym, ap}
-use mathlib.Core.Bool.{Bool, true, false, not, _&&_, _||_, Bool·beq}
+use mathlib.Core.Bool.{true, false, not, _&&_, _||_, Bool·beq}
 use Prim.Native.Nat.{ℕ, zero, suc, _+_, _*_, _^_, _≤_, _<_}
 use native.Mathlib.Omega.{arith}
 use native.Mathlib.Nat.{mul-pos, pow-suc}

@@ -1,9 +1,9 @@
 -- A test that every element of a list passes: of an element, of a part, of two lists in one. Assumes nothing.
-use mathlib.Core.Path.{_≡_, refl}
+use mathlib.Core.Path.{_≡_, refl, ap, _∙_}
 use mathlib.Core.Bool.{Bool, true}
 use Prim.Native.Nat.{ℕ, zero, suc, _<_}
 use native.Mathlib.Omega.{arith}
-use mathlib.Core.List.{List, [], _∷_, _++_}
+use mathlib.Core.List.{List, [], _∷_, _++_, List·Memᴰ, List·Memᴰ·head, List·Memᴰ·tail}
 use lib.ListN.{length, getD, take, drop}
 use Rattle.lists.specs.All.{AllOf}
 
@@ -46,3 +46,19 @@ module _ {A : Type 0} (test : A → Bool) where
   all-drop zero xs a = a
   all-drop (suc k) [] a = tt
   all-drop (suc k) (x ∷ xs) a = all-drop k xs (a .1)
+
+  pub all-member : {x : A} (xs : List A) → AllOf test xs → List·Memᴰ x xs → test x ≡ true
+  unfolding AllOf
+  all-member (y ∷ xs) a (List·Memᴰ·head e) = ap test e ∙ a .0
+  all-member (y ∷ xs) a (List·Memᴰ·tail m) = all-member xs (a .1) m
+
+  pub all-of-members : (xs : List A) → ((x : A) → List·Memᴰ x xs → test x ≡ true) → AllOf test xs
+  unfolding AllOf
+  all-of-members [] h = tt
+  all-of-members (x ∷ xs) h = (h x (List·Memᴰ·head refl), all-of-members xs (λ y m. h y (List·Memᴰ·tail m)))
+
+-- a test that asks less
+pub all-weaker : {A : Type 0} {f g : A → Bool} → ((x : A) → f x ≡ true → g x ≡ true) → (xs : List A) → AllOf f xs → AllOf g xs
+unfolding AllOf
+all-weaker w [] a = tt
+all-weaker w (x ∷ xs) a = (w x (a .0), all-weaker w xs (a .1))

@@ -1,13 +1,13 @@
 -- A loop that fills a list from a place to its end, one store a turn: filling what is left of it now gives what filling it at the start gave.
 -- Assumes nothing.
-use mathlib.Core.Path.{_≡_, refl, sym, ap, _∙_}
+use mathlib.Core.Path.{_≡_, refl, sym, _∙_}
 use Prim.Native.Nat.{ℕ, suc, _+_, _-_, _≤_, _<_}
 use native.Mathlib.Nat.{sub-zero}
 use native.Mathlib.Numerals.{add-one}
 use native.Mathlib.Omega.{arith}
-use mathlib.Core.List.{List, [], _∷_, _++_, append-assoc, append-nil}
-use lib.ListN.{length, set, take, drop, replicate, length-set, length-append, length-replicate, length-take}
-use lib.Seq.{take-all, take-suc-set, take-at, append-snoc}
+use mathlib.Core.List.{List, _++_, append-nil}
+use lib.ListN.{length, set, replicate, length-set, length-append, length-replicate, length-take}
+use lib.Seq.{take-all, take-suc-set, append-snoc}
 use Rattle.lists.specs.Fills.{filledFrom}
 use Rattle.lists.specs.Front.{Front}
 use Rattle.lists.proofs.Laws.Front.{front-read, front-length}

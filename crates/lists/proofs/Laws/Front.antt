@@ -1,11 +1,11 @@
 -- A written front of a lent list: what can be read of it, and how it grows. Assumes nothing.
 use mathlib.Core.Path.{_≡_, refl, sym, ap, _∙_}
-use Prim.Native.Nat.{ℕ, suc, _+_, _≤_, _<_}
+use Prim.Native.Nat.{ℕ, _+_, _≤_, _<_}
 use native.Mathlib.Numerals.{add-one}
 use native.Mathlib.Omega.{arith}
-use mathlib.Core.List.{List, [], _∷_, _++_, append-assoc}
+use mathlib.Core.List.{List, [], _∷_, _++_}
 use lib.ListN.{length, take, drop, set, length-append, length-drop}
-use lib.Seq.{take-at, drop-at, drop-drop, drop-append-add, set-split, append-snoc, length-take-le}
+use lib.Seq.{take-at, drop-at, drop-drop, set-split, append-snoc}
 use Rattle.lists.specs.Front.{Front}
 
 module _ {A : Type 0} where

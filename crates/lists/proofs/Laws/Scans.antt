@@ -1,13 +1,13 @@
 -- A loop that looks for the first place from `from` up to `end` at which a test holds: how it starts, goes on, stops and ends; and what
 -- the answer means. Assumes nothing.
 use mathlib.Core.Path.{_≡_, refl, _∙_}
-use mathlib.Core.Bool.{Bool, true, false, not}
+use mathlib.Core.Bool.{Bool, true, false}
 use Prim.Native.Nat.{ℕ, zero, suc, _+_, _-_, _≤_, _<_}
 use mathlib.Core.Logic.{⊎-elim}
 use native.Mathlib.Nat.{eq-or-lt-of-le}
 use native.Mathlib.Numerals.{add-one}
 use native.Mathlib.Omega.{arith}
-use Rattle.lists.specs.Scans.{firstOf, firstIn, clear}
+use Rattle.lists.specs.Scans.{firstOf, firstIn}
 use Rattle.lists.specs.declared.Scan.{Scan}
 use Rattle.lists.specs.declared.Scan.the-variants.{Clear, At}
 
@@ -36,13 +36,6 @@ module _ {test : ℕ → Bool} {end from i : ℕ} (s : Scanning test end from i)
   scan-ends h =
       let none-left : end - i ≡ 0 = omega arith in
       s .rest ∙ rw none-left refl
-
--- a test that is stated by its negation
-pub not-of-true : {b : Bool} → b ≡ true → not b ≡ false
-not-of-true h = rw h refl
-
-pub not-of-false : {b : Bool} → b ≡ false → not b ≡ true
-not-of-false h = rw h refl
 
 -- ---- what a search means: the least place wins
 

@@ -1,5 +1,5 @@
 -- `geometry::area::polygon_signed_area` meets its contract: the loop is that of `proofs/Laws/Area.antt`. Assumes nothing.
-use mathlib.Core.Path.{_≡_, refl}
+use mathlib.Core.Path.{refl}
 use Prim.Native.Nat.{_-_}
 use native.Mathlib.Omega.{arith}
 use borrow.Author.Needs.{needs}

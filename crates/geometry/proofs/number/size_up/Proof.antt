@@ -5,7 +5,8 @@ use native.Mathlib.Numerals.{add-one}
 use native.Mathlib.Omega.{arith}
 use lib.Dec.{le→leb}
 use lib.Ieee.{inFloat, toUnsigned}
-use Rattle.geometry.proofs.Laws.Floor.{holds, can-cut, cut-small, size-by-test, size-whole}
+use Rattle.lists.proofs.Laws.Tests.{held}
+use Rattle.geometry.proofs.Laws.Floor.{can-cut, cut-small, size-by-test, size-whole}
 use borrow.Author.Needs.{needs}
 use Rattle.geometry.proofs.number.size_up.Statement.{statement}
 use Rattle.geometry.proofs.number.size_up.Tie as tie
@@ -39,7 +40,7 @@ returns-3 c =
     let cut = c .before in
     let is = cut .truncating-f64-to-u64 .ensures in
     let large : 2 ^ 53 ≤ toUnsigned 64 (cut .before .args .a) = rw is at (c .if1 .left) in
-    (is ∙ sym (size-whole _ (holds (cut .before .good .0 .1)) (cut .before .pre .0) (cut .before .pre .1) large), rw is (cut-small _ (cut .before .pre .0) (cut .before .pre .1)))
+    (is ∙ sym (size-whole _ (held (cut .before .good .0 .1)) (cut .before .pre .0) (cut .before .pre .1) large), rw is (cut-small _ (cut .before .pre .0) (cut .before .pre .1)))
 
 pub size-up-spec : {M : Type 1} → statement M
 size-up-spec =

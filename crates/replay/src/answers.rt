@@ -1,0 +1,65 @@
+// The answer to one job, by its kind.
+use crate::words::Ring;
+use crate::words::real_at;
+use crate::words::ring_at;
+use crate::words::starts_with;
+use crate::writing::put_byte;
+use crate::writing::put_bytes;
+use crate::writing::put_real;
+use crate::writing::put_signed;
+use geometry::Bbox;
+
+// `cell X`: the cell of a coordinate.
+fn answer_cell(line: &[u8], out: &mut [u8]) -> usize {
+    let x = real_at(line, 5);
+    put_signed(out, 0, geometry::cell(x.value))
+}
+
+// `area RING`: the area of a ring.
+fn answer_area(line: &[u8], rings: &mut [f64], out: &mut [u8]) -> usize {
+    let ring = ring_at(line, 5, rings);
+    let size = ring.size;
+    put_real(out, 0, geometry::polygon_area(&rings[..size]))
+}
+
+// The corners of a box, parted by spaces.
+fn put_box(out: &mut [u8], b: Bbox) -> usize {
+    let n = put_real(out, 0, b.min_x);
+    let n = put_byte(out, n, b' ');
+    let n = put_real(out, n, b.min_y);
+    let n = put_byte(out, n, b' ');
+    let n = put_real(out, n, b.max_x);
+    let n = put_byte(out, n, b' ');
+    put_real(out, n, b.max_y)
+}
+
+// `box RING`: the box around a ring, or `empty`.
+fn answer_box(line: &[u8], rings: &mut [f64], out: &mut [u8]) -> usize {
+    let ring = ring_at(line, 4, rings);
+    let size = ring.size;
+    let bounds = Bbox::from_points(&rings[..size]);
+    if bounds.is_empty() {
+        return put_bytes(out, 0, b"empty");
+    }
+    put_box(out, bounds)
+}
+
+// The answer to a job that is one of the kinds above.
+fn answer_kind(line: &[u8], rings: &mut [f64], out: &mut [u8]) -> usize {
+    if starts_with(line, b"cell") {
+        return answer_cell(line, out);
+    }
+    if starts_with(line, b"area") {
+        return answer_area(line, rings, out);
+    }
+    if starts_with(line, b"box") {
+        return answer_box(line, rings, out);
+    }
+    put_bytes(out, 0, b"bad")
+}
+
+// The answer to a job, ended by a line feed; how many bytes it has.
+pub fn answer(line: &[u8], rings: &mut [f64], out: &mut [u8]) -> usize {
+    let n = answer_kind(line, rings, out);
+    put_byte(out, n, b'\n')
+}
