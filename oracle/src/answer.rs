@@ -1,6 +1,7 @@
 //! Answers: what the source says to a job.
 
-use crate::job::{Channel, Contact, Job, Join, Layout, Line, Ring, MEMBERS};
+use crate::job::{Channel, Contact, Job, Join, Layout, Port, Ring, Via, MEMBERS};
+use crate::writing::Line;
 use layout_db::connectivity_probe::probe::{self, Joins};
 use layout_db::{connectivity, connectivity_full};
 use openrdson_core::geometry::{polygon_area, Bbox, LayerKey, Point};
@@ -54,10 +55,12 @@ pub fn answer(job: &Job) -> Result<String, String> {
     Ok(line.0)
 }
 
+/// 1 for yes, 0 for no.
 fn flag(yes: bool) -> Line {
     Line::of(u8::from(yes))
 }
 
+/// Floats alone, without their number.
 fn floats(list: &[f64]) -> Line {
     list.iter().fold(Line::of(""), |line, x| line.float(*x))
 }
@@ -67,6 +70,7 @@ pub fn cell(x: f64) -> i64 {
     (x / CELL).floor() as i64
 }
 
+/// The box of a ring's points, or `empty`.
 fn bbox(ring: &[Point]) -> Line {
     let b = Bbox::from_points(ring);
     if b.is_empty() {
@@ -224,7 +228,7 @@ fn nets(nets: &Nets) -> Line {
 
 /// The tables of a layout as the source takes them.
 fn tables(layout: &Layout) -> (TechStack, LayerMap) {
-    let via = |via: &crate::job::Via| tech::Via {
+    let via = |via: &Via| tech::Via {
         name: via.name.clone(),
         bottom_layer: via.bottom.clone(),
         top_layer: via.top.clone(),
@@ -249,7 +253,7 @@ fn drawn(layout: &Layout) -> LayoutIR {
         points: ring.clone(),
         props: Vec::new(),
     };
-    let port = |port: &crate::job::Port| layout::Port {
+    let port = |port: &Port| layout::Port {
         name: port.name.clone(),
         id: None,
         net: String::new(),
@@ -326,6 +330,7 @@ pub fn most_rects(channel: &Channel, layout: &Layout) -> usize {
     most
 }
 
+/// How many polygons, then each one's layer, source and ring.
 fn pieces(pieces: &[Piece]) -> Line {
     Line::of("").list(pieces, |line, piece| {
         line.word(piece.layer).word(piece.source).ring(&piece.ring)

@@ -9,13 +9,16 @@ mod make;
 mod pairs;
 mod pen;
 mod random;
+mod reading;
 mod shapes;
 mod tables;
+mod writing;
 
 use job::Job;
 use std::io::{self, BufRead, BufWriter, Write};
 use std::panic::{catch_unwind, set_hook, AssertUnwindSafe};
 
+/// Runs the command that the words name.
 fn main() {
     let words: Vec<String> = std::env::args().skip(1).collect();
     let words: Vec<&str> = words.iter().map(String::as_str).collect();

@@ -60,6 +60,7 @@ pub fn make(seed: u64, kind: &str, number: u64) -> Job {
     }
 }
 
+/// A job of the kind, within bounds or not.
 fn draw(random: &mut Random, kind: &str) -> Job {
     match kind {
         "cell" => Job::Cell(any_coordinate(random)),
@@ -95,6 +96,7 @@ fn draw(random: &mut Random, kind: &str) -> Job {
     }
 }
 
+/// The same for kinds that have a layout.
 fn draw_layout(random: &mut Random, kind: &str) -> Job {
     let most = if kind.ends_with("512") { LARGE } else { SMALL };
     let contact = *random.pick(&[Contact::Source, Contact::Full]);
@@ -128,6 +130,7 @@ fn fits(job: &Job) -> bool {
     }
 }
 
+/// Whether an extraction keeps to the bound of connections, and its grid to what the source is asked for.
 fn extraction_fits(contact: Contact, layout: &Layout) -> bool {
     match answer::extract(contact, layout) {
         Ok(nets) => nets.connections.len() <= CONNECTIONS,
@@ -135,6 +138,7 @@ fn extraction_fits(contact: Contact, layout: &Layout) -> bool {
     }
 }
 
+/// Whether a cut keeps to the bounds of polygons, points and rectangles.
 fn cut_fits(channel: &Channel, layout: &Layout) -> bool {
     let pieces = answer::cut(channel, layout);
     let points: usize = pieces.iter().map(|piece| piece.ring.len()).sum();
@@ -143,6 +147,7 @@ fn cut_fits(channel: &Channel, layout: &Layout) -> bool {
         && answer::most_rects(channel, layout) <= ACTIVE_RECTS
 }
 
+/// A job on two rings.
 fn two(random: &mut Random, job: fn(Ring, Ring) -> Job) -> Job {
     let (a, b) = pairs::any_pair(random);
     job(a, b)

@@ -68,6 +68,7 @@ fn turned(random: &mut Random, (a, b): Pair) -> Pair {
     pair
 }
 
+/// Two boxes on one grid; edges and corners coincide.
 fn grid_boxes(random: &mut Random) -> Pair {
     let sheet = Sheet::any(random, 8);
     let side = random.between(4, 8);
@@ -166,6 +167,7 @@ fn combs(random: &mut Random) -> Pair {
     )
 }
 
+/// Two slanted rings over each other.
 fn slanted(random: &mut Random) -> Pair {
     let sheet = Sheet::any(random, 8);
     (
@@ -189,6 +191,7 @@ fn shared_slant(random: &mut Random) -> Pair {
     (one, other)
 }
 
+/// A ring that crosses itself, and a small one over a quarter of it.
 fn crossing(random: &mut Random) -> Pair {
     let sheet = Sheet::any(random, 12);
     let points = random.count(4, 12);
@@ -220,6 +223,7 @@ fn nested(random: &mut Random) -> Pair {
     (sheet.rect(0, 0, 8, 8), inner)
 }
 
+/// Two boxes with corners about the borders of a few cells.
 fn cells(random: &mut Random) -> Pair {
     let one = |random: &mut Random| {
         let (k, m) = (random.between(-2, 1), random.between(-2, 1));

@@ -57,12 +57,14 @@ impl Pen {
         }
     }
 
+    /// Adds a polygon, unless there are enough.
     fn draw(&mut self, layer: i16, ring: Ring) {
         if self.polygons.len() < self.most {
             self.polygons.push((layer, ring));
         }
     }
 
+    /// Whether there are enough polygons.
     fn is_full(&self) -> bool {
         self.polygons.len() >= self.most
     }
@@ -210,6 +212,7 @@ impl Pen {
         }
     }
 
+    /// A ring of any shape, small enough for a layout.
     fn shape(&self, random: &mut Random, sheet: &Sheet, side: i64) -> Ring {
         match random.below(12) {
             0..=3 => shapes::grid_box(random, sheet, side, 4),

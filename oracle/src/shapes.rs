@@ -1,4 +1,4 @@
-//! Rings by lot: boxes on a grid, near misses, combs, slanted and crossing rings, keyholes, runs of heights, short rings.
+//! Rings by lot: boxes on a grid, combs, slanted and crossing rings, keyholes, runs of heights, short rings.
 //!
 //! Coordinates stay within 0.125 m of zero and are never negative zero. Only + - * / and whole numbers are used, so a
 //! seed gives the same rings on every machine.
@@ -88,6 +88,7 @@ impl Sheet {
         Sheet { left, low, step }
     }
 
+    /// Where a sheet begins, in nanometres.
     fn place(random: &mut Random, side: i64, step: i64) -> i64 {
         match random.below(10) {
             0 => FARTHEST_NM - side * step,
@@ -402,6 +403,7 @@ pub fn jittered(random: &mut Random, p: Point) -> Point {
     Point::new(jitter(random, p.x), jitter(random, p.y))
 }
 
+/// The coordinate, left as it is or moved a little.
 fn jitter(random: &mut Random, x: f64) -> f64 {
     bounded(match random.below(6) {
         0 => x + sliver(random),

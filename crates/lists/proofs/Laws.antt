@@ -3,6 +3,7 @@ pub mod Fills
 pub mod Front
 pub mod Scans
 pub mod Gathered
+pub mod Each
 pub mod Behind
 pub mod All
 pub mod Tests

@@ -18,12 +18,6 @@ nan-or-number nan h k = h refl
 nan-or-number (inf s) h k = k refl
 nan-or-number (fin s m e) h k = k refl
 
-lt-nan : (x : Float) → lt x nan ≡ false
-unfolding lt
-lt-nan nan = refl
-lt-nan (inf s) = refl
-lt-nan (fin s m e) = refl
-
 le-nan : (x : Float) → le x nan ≡ false
 unfolding le
 le-nan nan = refl

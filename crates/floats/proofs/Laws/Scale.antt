@@ -10,7 +10,7 @@ use lib.Dec.{leb, ltb, eqb}
 use lib.Ieee.{Float, nan, inf, fin, up, down, below, level, neg, lt, eq, le}
 use lib.Ieee.Fits.{down-pos}
 use lib.Ieee.Positive.{num, den, den-pos}
-use borrow.Author.Tests.{ltb-true, ltb-false, leb-true, leb-false, eqb-true, lt-ltb, le-ltb, le-leb, lt-leb, eq-eqb, ne-eqb}
+use borrow.Author.Tests.{ltb-true, ltb-false, leb-true, leb-false, eqb-true, lt-ltb, le-ltb, le-leb, eq-eqb, ne-eqb}
 use Rattle.floats.specs.Scaled.{negative}
 use Rattle.floats.specs.Kinds.{isNumber, negativeZero}
 use Rattle.lists.proofs.Laws.Tests.{alike, by-cases, never}
@@ -219,9 +219,6 @@ module _ {S : Scale} {x y : Float} (p : On S x) (q : On S y) where
 
   pub not-le-says : le x y ≡ false → high q + deep p < high p + deep q
   not-le-says h = leb-false (high p + deep q) (high q + deep p) (sym le-on ∙ h)
-
-  pub says-not-le : high q + deep p < high p + deep q → le x y ≡ false
-  says-not-le h = le-on ∙ lt-leb (high p + deep q) (high q + deep p) h
 
   pub eq-says : eq x y ≡ true → high p + deep q ≡ high q + deep p
   eq-says h = eqb-true (high p + deep q) (high q + deep p) (sym eq-on ∙ h)

@@ -1,9 +1,9 @@
--- A test that every element of a list passes: of an element, of a part, of two lists in one. Assumes nothing.
-use mathlib.Core.Path.{_≡_, refl, ap, _∙_}
+-- A test that every element of a list passes: of an element, of a part, of two lists in one, in another order. Assumes nothing.
+use mathlib.Core.Path.{_≡_, refl, sym, ap, _∙_}
 use mathlib.Core.Bool.{Bool, true}
 use Prim.Native.Nat.{ℕ, zero, suc, _<_}
 use native.Mathlib.Omega.{arith}
-use mathlib.Core.List.{List, [], _∷_, _++_, List·Memᴰ, List·Memᴰ·head, List·Memᴰ·tail}
+use mathlib.Core.List.{List, [], _∷_, _++_, List·Memᴰ, List·Memᴰ·head, List·Memᴰ·tail, List·Permᴰ, List·Permᴰ·nil, List·Permᴰ·cons, List·Permᴰ·swap, List·Permᴰ·trans}
 use lib.ListN.{length, getD, take, drop}
 use Rattle.lists.specs.All.{AllOf}
 
@@ -56,6 +56,14 @@ module _ {A : Type 0} (test : A → Bool) where
   unfolding AllOf
   all-of-members [] h = tt
   all-of-members (x ∷ xs) h = (h x (List·Memᴰ·head refl), all-of-members xs (λ y m. h y (List·Memᴰ·tail m)))
+
+  -- a permutation keeps it
+  pub all-permuted : {xs ys : List A} → List·Permᴰ xs ys → AllOf test xs → AllOf test ys
+  unfolding AllOf
+  all-permuted List·Permᴰ·nil a = a
+  all-permuted (List·Permᴰ·cons e d) a = (ap test (sym e) ∙ a .0, all-permuted d (a .1))
+  all-permuted (List·Permᴰ·swap e f) a = (ap test (sym f) ∙ a .1 .0, (ap test (sym e) ∙ a .0, a .1 .1))
+  all-permuted (List·Permᴰ·trans d e) a = all-permuted e (all-permuted d a)
 
 -- a test that asks less
 pub all-weaker : {A : Type 0} {f g : A → Bool} → ((x : A) → f x ≡ true → g x ≡ true) → (xs : List A) → AllOf f xs → AllOf g xs
