@@ -10,7 +10,7 @@ use openrdson_core::geometry::Point;
 use openrdson_core::geomops::{polygon_intersection_rects, polygon_minus_polygon, Rect};
 
 /// What `make` can be asked for: the kinds of jobs, and larger or wilder ones printed under a kind's name.
-pub const KINDS: [&str; 23] = [
+pub const KINDS: [&str; 24] = [
     "cell",
     "area",
     "box",
@@ -26,6 +26,7 @@ pub const KINDS: [&str; 23] = [
     "inside",
     "marker",
     "joins",
+    "joins2000",
     "extract",
     "extract512",
     "channel",
@@ -92,6 +93,7 @@ fn draw(random: &mut Random, kind: &str) -> Job {
         }
         "marker" => Job::Marker(marker(random)),
         "joins" => Job::Joins(joins(random)),
+        "joins2000" => Job::Joins((0..2000).map(|_| join(random, 0, MEMBERS)).collect()),
         _ => draw_layout(random, kind),
     }
 }
@@ -292,6 +294,16 @@ fn bytes(random: &mut Random, count: usize) -> String {
         .collect()
 }
 
+/// A lookup or, twice as often, a union of some of the members behind the first.
+fn join(random: &mut Random, first: usize, members: usize) -> Join {
+    let (a, b) = (first + random.count(0, members - 1), first + random.count(0, members - 1));
+    if random.once_in(3) {
+        Join::Find(a)
+    } else {
+        Join::Union(a, b)
+    }
+}
+
 /// Joins and finds: by lot over few or all members, in a chain, or pairwise so that ranks grow.
 fn joins(random: &mut Random) -> Vec<Join> {
     let members = *random.pick(&[4, 16, 64, MEMBERS, MEMBERS]);
@@ -317,12 +329,7 @@ fn joins(random: &mut Random) -> Vec<Join> {
         _ => (),
     }
     for _ in 0..random.count(0, 2 * members.min(100)) {
-        let (a, b) = (member(random), member(random));
-        joins.push(if random.once_in(3) {
-            Join::Find(a)
-        } else {
-            Join::Union(a, b)
-        });
+        joins.push(join(random, first, members));
     }
     joins.extend((0..random.count(0, 8)).map(|_| Join::Find(member(random))));
     joins

@@ -4,6 +4,11 @@ ghost use mathlib.Core.Path.{_≡_};
 ghost use Rattle.lists.specs.Marks.{emptyNumber, emptyCoordinate};
 ghost use Rattle.lists.specs.Fills.{filledFrom};
 
+// The empty marks: what stands in a lent list where there is nothing to say.
+pub const EMPTY_NUMBER: usize = usize::MAX;
+
+pub const EMPTY_COORDINATE: f64 = 0.0;
+
 // What a search through a list finds: nothing, or the first place.
 pub enum Scan {
     Clear,
@@ -16,7 +21,7 @@ pub fn fill_numbers(list: &mut [usize], from: usize)
 {
     let mut i = from;
     while i < list.len() {
-        list[i] = usize::MAX;
+        list[i] = EMPTY_NUMBER;
         i += 1;
     }
 }
@@ -27,7 +32,7 @@ pub fn fill_coordinates(list: &mut [f64], from: usize)
 {
     let mut i = from;
     while i < list.len() {
-        list[i] = 0.0;
+        list[i] = EMPTY_COORDINATE;
         i += 1;
     }
 }

@@ -1,5 +1,5 @@
 // The answer to one job, by its kind.
-use crate::words::Ring;
+use crate::tables::answer_joins;
 use crate::words::real_at;
 use crate::words::ring_at;
 use crate::words::starts_with;
@@ -54,6 +54,9 @@ fn answer_kind(line: &[u8], rings: &mut [f64], out: &mut [u8]) -> usize {
     }
     if starts_with(line, b"box") {
         return answer_box(line, rings, out);
+    }
+    if starts_with(line, b"joins") {
+        return answer_joins(line, out);
     }
     put_bytes(out, 0, b"bad")
 }

@@ -2,6 +2,7 @@
 // hexadecimal digits of its bits. A line that is no job is answered `bad`.
 mod answers;
 mod lines;
+mod tables;
 mod words;
 mod writing;
 

@@ -22,7 +22,7 @@ pub struct Ring {
 }
 
 // The byte at a place of a line, a space behind its end.
-fn byte_at(line: &[u8], at: usize) -> u8 {
+pub fn byte_at(line: &[u8], at: usize) -> u8 {
     if at < line.len() { line[at] } else { b' ' }
 }
 

@@ -3,8 +3,8 @@ use mathlib.Core.Path.{_≡_, refl, sym, ap, _∙_}
 use Prim.Native.Nat.{ℕ, _+_, _≤_, _<_}
 use native.Mathlib.Numerals.{add-one}
 use native.Mathlib.Omega.{arith}
-use mathlib.Core.List.{List, [], _∷_, _++_}
-use lib.ListN.{length, take, drop, set, length-append, length-drop}
+use mathlib.Core.List.{List, [], _∷_, _++_, append-nil}
+use lib.ListN.{length, take, drop, set, length-append, length-drop, drop-of-length-le}
 use lib.Seq.{take-at, drop-at, drop-drop, set-split, append-snoc}
 use Rattle.lists.specs.Front.{Front}
 
@@ -38,3 +38,7 @@ module _ {A : Type 0} where
         many = rw (length-append, ← f .many);
         list = set-split mid count x h ∙ rw (← add-one count, behind, front-read f, append-snoc);
       }
+
+  -- a front that reaches the list's end is the whole list
+  pub front-whole : {written before after : List A} {count : ℕ} → Front written before after count → length before ≤ count → after ≡ written
+  front-whole {written} f all = f .list ∙ (rw (drop-of-length-le _ all) (append-nil written))
