@@ -8,6 +8,7 @@ use crate::writing::put_bytes;
 use crate::writing::put_real;
 use crate::writing::put_signed;
 use geometry::Bbox;
+use names::markers::is_marker;
 
 // `cell X`: the cell of a coordinate.
 fn answer_cell(line: &[u8], out: &mut [u8]) -> usize {
@@ -44,6 +45,22 @@ fn answer_box(line: &[u8], rings: &mut [f64], out: &mut [u8]) -> usize {
     put_box(out, bounds)
 }
 
+// `1` or `0`.
+fn put_answer(out: &mut [u8], yes: bool) -> usize {
+    if yes {
+        return put_byte(out, 0, b'1');
+    }
+    put_byte(out, 0, b'0')
+}
+
+// `marker NAME`: whether a name is a marker's.
+fn answer_marker(line: &[u8], out: &mut [u8]) -> usize {
+    if line.len() < 7 {
+        return 0;
+    }
+    put_answer(out, is_marker(&line[7..]))
+}
+
 // The answer to a job that is one of the kinds above.
 fn answer_kind(line: &[u8], rings: &mut [f64], out: &mut [u8]) -> usize {
     if starts_with(line, b"cell") {
@@ -54,6 +71,9 @@ fn answer_kind(line: &[u8], rings: &mut [f64], out: &mut [u8]) -> usize {
     }
     if starts_with(line, b"box") {
         return answer_box(line, rings, out);
+    }
+    if starts_with(line, b"marker") {
+        return answer_marker(line, out);
     }
     if starts_with(line, b"joins") {
         return answer_joins(line, out);

@@ -1,0 +1,2 @@
+-- The laws of names, by subject.
+pub mod Laws
