@@ -1,13 +1,18 @@
 // The answer to one job, by its kind.
+use crate::rings::answer_bands;
+use crate::rings::answer_intervals;
+use crate::rings::answer_meet;
+use crate::rings::answer_minus;
+use crate::rings::answer_rects;
 use crate::tables::answer_joins;
-use crate::words::real_at;
-use crate::words::ring_at;
-use crate::words::starts_with;
-use crate::writing::put_byte;
-use crate::writing::put_bytes;
-use crate::writing::put_real;
-use crate::writing::put_signed;
 use geometry::Bbox;
+use jobs::words::real_at;
+use jobs::words::ring_at;
+use jobs::words::starts_with;
+use jobs::writing::put_byte;
+use jobs::writing::put_bytes;
+use jobs::writing::put_real;
+use jobs::writing::put_signed;
 use names::markers::is_marker;
 
 // `cell X`: the cell of a coordinate.
@@ -71,6 +76,21 @@ fn answer_kind(line: &[u8], rings: &mut [f64], out: &mut [u8]) -> usize {
     }
     if starts_with(line, b"box") {
         return answer_box(line, rings, out);
+    }
+    if starts_with(line, b"intervals") {
+        return answer_intervals(line, out);
+    }
+    if starts_with(line, b"bands") {
+        return answer_bands(line, out);
+    }
+    if starts_with(line, b"minus") {
+        return answer_minus(line, out);
+    }
+    if starts_with(line, b"meet") {
+        return answer_meet(line, out);
+    }
+    if starts_with(line, b"rects") {
+        return answer_rects(line, out);
     }
     if starts_with(line, b"marker") {
         return answer_marker(line, out);

@@ -2,9 +2,8 @@
 // hexadecimal digits of its bits. A line that is no job is answered `bad`.
 mod answers;
 mod lines;
+mod rings;
 mod tables;
-mod words;
-mod writing;
 
 fn main() {
     let mut input = [0u8; 196608];

@@ -1,8 +1,8 @@
 // Jobs of the union-find table.
-use crate::words::byte_at;
-use crate::words::number_at;
-use crate::writing::put_byte;
-use crate::writing::put_number;
+use jobs::words::byte_at;
+use jobs::words::number_at;
+use jobs::writing::put_byte;
+use jobs::writing::put_number;
 use union_find::MAX_POLYGONS;
 use union_find::UnionFind;
 ghost use Prim.Native.Nat.{_<_};

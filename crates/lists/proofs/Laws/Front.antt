@@ -5,7 +5,7 @@ use native.Mathlib.Numerals.{add-one}
 use native.Mathlib.Omega.{arith}
 use mathlib.Core.List.{List, [], _∷_, _++_, append-nil}
 use lib.ListN.{length, take, drop, set, length-append, length-drop, drop-of-length-le}
-use lib.Seq.{take-at, drop-at, drop-drop, set-split, append-snoc}
+use lib.Seq.{take-at, drop-at, drop-drop, set-split, append-snoc, length-take-le}
 use Rattle.lists.specs.Front.{Front}
 
 module _ {A : Type 0} where
@@ -19,6 +19,9 @@ module _ {A : Type 0} where
 
     pub front-fits : count ≤ length after
     front-fits = omega (arith, f .many, simp length-append at (ap length (f .list)))
+
+    pub front-count : length (take count after) ≡ count
+    front-count = length-take-le count after front-fits
 
     -- what stands in front is what was written
     pub front-read : take count after ≡ written
