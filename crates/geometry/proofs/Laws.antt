@@ -4,3 +4,4 @@ pub mod Size
 pub mod Signed
 pub mod Area
 pub mod Boxes
+pub mod Coordinates

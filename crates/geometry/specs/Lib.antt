@@ -4,3 +4,4 @@ pub mod Ring
 pub mod Boxes
 pub mod Cells
 pub mod Area
+pub mod Coordinates

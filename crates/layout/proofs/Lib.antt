@@ -1,0 +1,2 @@
+-- The laws of layouts, by subject.
+pub mod Laws
