@@ -3,9 +3,9 @@
 
 usage: python3 tools/respell.py        at the top of the repository
 
-A definition or lemma is in snake case. A file's names change where the file declares them or imports them from a crate of the
-repository; types, modules, functions of src/, strings and numbers keep theirs. It stops, with nothing written, where two names would
-fall together. A second run changes nothing.
+A definition, lemma or field is in snake case. A name with a dash changes in the files that declare it or import it from a crate of the
+repository, and a field or a name with a capital inside in every file. Types, modules, functions of src/, strings and numbers keep
+theirs. It stops, with nothing written, where two names would fall together. A second run changes nothing.
 """
 
 import glob
@@ -41,25 +41,42 @@ def declared(text):
     return set(DECLARED.findall(text))
 
 
+def fields(text):
+    found, inside = set(), False
+    for line in text.split("\n"):
+        if re.match(r"(pub )?record ", line):
+            inside = True
+        elif line[:1] not in ("", " "):
+            inside = False
+        elif inside:
+            found |= declared(line)
+    return found
+
+
+def is_walked(path):
+    """A function's own proof: what it declares is named after the code."""
+    return "/proofs/" in path and "/Laws/" not in path and path.endswith(("/Proof.antt", "/Invariants.antt", "/Answers.antt"))
+
+
 def main():
     crates = sorted(os.path.basename(p) for p in glob.glob("crates/*"))
     logic = sorted(glob.glob("crates/*/specs/**/*.antt", recursive=True) + glob.glob("crates/*/proofs/**/*.antt", recursive=True))
     texts = {p: read(p) for p in logic}
-    walked = {p for p in logic if p.endswith(("/Proof.antt", "/Invariants.antt", "/Answers.antt"))}
-    # What a function's own proof declares is named after the code, and stays.
+    walked = {p for p in logic if is_walked(p)}
     own = set().union(*(declared(t) for p, t in texts.items() if p not in walked))
     renamed = {n: respelt(n) for n in own}
     renamed = {n: m for n, m in renamed.items() if n != m}
+
+    everywhere = {n for n in renamed if is_mixed(n)} | set(renamed) & set().union(*(fields(t) for p, t in texts.items() if p not in walked))
 
     sources = sorted(glob.glob("crates/*/src/**/*.rt", recursive=True))
     edits = sorted(glob.glob("crates/*/must-fail/*.edit"))
     after, wrong = {}, []
     for path in logic + sources + edits:
         text = texts.get(path) or read(path)
-        if path in edits:
-            known = {n for n in renamed if is_mixed(n)}
-        else:
-            known = set(renamed) & (declared(text) if path in texts and path not in walked else set())
+        known = set(everywhere)
+        if path not in edits:
+            known |= set(renamed) & (declared(text) if path in texts and path not in walked else set())
             for crate, names in IMPORTED.findall(text):
                 if crate in crates:
                     known |= set(renamed) & {w.strip().split(" as ")[0] for w in names.split(",")}

@@ -7,7 +7,7 @@ use crate::number::{floor, maximum, minimum};
 use crate::ring::{Point, point_at};
 
 // The least box around some points.
-#[derive(Drop)]
+#[derive(Clone, Copy)]
 pub struct Bbox {
     pub min_x: f64,
     pub min_y: f64,
@@ -75,7 +75,7 @@ pub fn cell(x: f64) -> i64
 }
 
 // The cells that a box reaches: from x0 to x1 and from y0 to y1, the ends included.
-#[derive(Drop)]
+#[derive(Clone, Copy)]
 pub struct Cells {
     pub x0: i64,
     pub y0: i64,

@@ -2,21 +2,21 @@
 ghost use Rattle.std.specs.Prelude.{◌≡◌, ◌<◌, ◌≤◌, length, take};
 
 // A whole number that was read, and where the next word starts.
-#[derive(Drop)]
+#[derive(Clone, Copy)]
 pub struct Number {
     pub value: usize,
     pub next: usize,
 }
 
 // A float that was read, and where the next word starts.
-#[derive(Drop)]
+#[derive(Clone, Copy)]
 pub struct Real {
     pub value: f64,
     pub next: usize,
 }
 
 // A ring that was read: how many coordinates it has, and where the next word starts.
-#[derive(Drop)]
+#[derive(Clone, Copy)]
 pub struct Ring {
     pub size: usize,
     pub next: usize,

@@ -1,5 +1,6 @@
 // What every loop over a lent list needs: the first place that a search finds, and the fills with the empty marks.
 // The laws of a written front, of filling, of scanning and of gathering stand in proofs/Laws.
+#![tactic(auto)]
 ghost use Rattle.std.specs.Prelude.{◌≡◌};
 ghost use Rattle.lists.specs.Marks.{empty_number, empty_coordinate};
 ghost use Rattle.lists.specs.Fills.{filled_from};
@@ -10,7 +11,7 @@ pub const EMPTY_NUMBER: usize = usize::MAX;
 pub const EMPTY_COORDINATE: f64 = 0.0;
 
 // What a search through a list finds: nothing, or the first place.
-#[derive(Drop)]
+#[derive(Clone, Copy)]
 pub enum Scan {
     Clear,
     At(usize),

@@ -49,6 +49,7 @@ module _ {A : Type 0} (test : A → Bool) where
 
   pub all_member : {x : A} (xs : List A) → AllOf test xs → Memᴰ x xs → test x ≡ true
   unfolding AllOf
+  all_member [] a m = elim m [ ]
   all_member (y ∷ xs) a (Memᴰ.head e) = ap test e ∙ a.0
   all_member (y ∷ xs) a (Memᴰ.tail m) = all_member xs a.1 m
 

@@ -60,7 +60,7 @@ int_itself (negsuc n) = eq-eqb n n refl
 
 pub same_bits : (a b : ℤ) → mag a < 2 ^ hbits w16 → mag b < 2 ^ hbits w16 → of_z w16 a ≡ of_z w16 b → int_same a b ≡ true
 same_bits a b fa fb e =
-    let same : a ≡ b = sym (to_z-of_z (sfits_of fa)) ∙ ap (to_z w16) e ∙ to_z-of_z (sfits_of fb) in
+    let same : a ≡ b = sym (to_z-of_z {w = w16} (sfits_of fa)) ∙ ap (to_z w16) e ∙ to_z-of_z {w = w16} (sfits_of fb) in
     subst (λ (z : ℤ). int_same a z ≡ true) same (int_itself a)
 
 pub other_bits : (a b : ℤ) → (of_z w16 a ≡ of_z w16 b → ⊥) → int_same a b ≡ false

@@ -1,0 +1,21 @@
+use Rattle.std.proofs.Common.{◌-◌, refl, arith, rules, le-ltb, lt-ltb}
+use Rattle.geometry.specs.Area.{cross_sum, signed_area_of}
+use Rattle.geometry.proofs.Laws.Area.{Summing, sum_next, sum_last}
+use borrow.Author.Rules.{rules}
+use Rattle.geometry.proofs.area.polygon_signed_area.Goals as goal
+
+pub returns-then-n-lt3 : goal.returns-then-n-lt3
+unfolding signed_area_of
+returns-then-n-lt3 c = rw (lt-ltb _ 3 c.if-n-lt3.true)
+
+pub loop-i-init : goal.loop-i-init
+unfolding cross_sum
+loop-i-init c = record { inside = omega arith; point = c.point_at-first.ensures; total = refl }
+
+pub loop-i-preserved : goal.loop-i-preserved
+loop-i-preserved c = sum_next c.loop-i.invariant c.cross-sum.ensures c.loop-i-test.true c.point_at-next.ensures
+
+pub returns : goal.returns
+unfolding signed_area_of
+returns c =
+    rw (le-ltb _ 3 c.if-n-lt3.false, sum_last c.loop-i.invariant c.cross.ensures c.loop-i-test.false c.point_at-first.ensures)

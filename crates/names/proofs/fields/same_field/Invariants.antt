@@ -1,0 +1,13 @@
+-- `names::fields::same_field` meets its contract: the loop is the one of `proofs/Laws/Comparing.antt`. Assumes nothing.
+use Prim.Native.Nat.{◌-◌}
+use mathlib.Core.Path.{sym, ◌∙◌}
+use borrow.Author.Tests.{not-true, not-false}
+use Rattle.names.specs.Bytes.{same_bytes}
+use Rattle.names.proofs.Laws.Comparing.{Comparing, comparing_start, fields_same_on, fields_differ, fields_same, same_first_short, same_second_short}
+use Rattle.names.proofs.fields.same_field.Given as goal
+
+abbrev pub invariant-loop-i : goal.invariant-loop-i
+invariant-loop-i l = Comparing same_bytes l.a l.at_a l.b l.at_b l.i
+
+abbrev pub decreases-loop-i : goal.decreases-loop-i
+decreases-loop-i l = 32 - l.i

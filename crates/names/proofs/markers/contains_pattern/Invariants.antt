@@ -1,0 +1,12 @@
+-- `names::markers::contains_pattern` meets its contract: a walk along the name, of which what is left decides. Assumes nothing.
+use Prim.Native.Nat.{◌-◌}
+use mathlib.Core.Path.{sym, ◌∙◌}
+use lib.ListN.{length}
+use Rattle.names.proofs.Laws.Patterns.{Looking, looking_start, contains_here, contains_goes_on, contains_ends}
+use Rattle.names.proofs.markers.contains_pattern.Given as goal
+
+abbrev pub invariant-loop-at : goal.invariant-loop-at
+invariant-loop-at l = Looking l.pattern l.name l.at
+
+abbrev pub decreases-loop-at : goal.decreases-loop-at
+decreases-loop-at l = length l.name - l.at

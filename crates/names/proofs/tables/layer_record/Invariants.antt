@@ -1,0 +1,15 @@
+-- `names::tables::layer_record` meets its contract: the loop is a scan; the machine compares bits, the contract numbers. Assumes nothing.
+use Prim.Native.Nat.{◌-◌}
+use mathlib.Core.Path.{◌≡◌, refl, sym, ◌∙◌}
+use lib.IntN.{ℤ, pos}
+use lib.ListN.{length, get_or}
+use Rattle.names.specs.Tables.{int_same, layer_record}
+use Rattle.lists.proofs.Laws.Scans.{Scanning, scan_start, scan_stops, scan_goes_on, scan_ends}
+use Rattle.names.proofs.Laws.Tables.{same_bits, other_bits}
+use Rattle.names.proofs.tables.layer_record.Given as goal
+
+abbrev pub invariant-loop-k : goal.invariant-loop-k
+invariant-loop-k l = (n : ℤ) → l.fn.number ≡ n → Scanning (λ j. int_same (get_or l.numbers j (pos 0)) n) (length l.numbers) 0 l.k
+
+abbrev pub decreases-loop-k : goal.decreases-loop-k
+decreases-loop-k l = length l.numbers - l.k

@@ -1,0 +1,10 @@
+-- `new` meets its contract: `own_parents`, and every rank 0.
+use mathlib.Core.Path.{refl}
+use Rattle.union_find.specs.Table.{fresh}
+use Rattle.union_find.proofs.Laws.Fresh.{fresh_well}
+use borrow.Author.Rules.{rules}
+use Rattle.union_find.proofs.UnionFind.new.Goals as goal
+
+pub returns : goal.returns
+unfolding fresh
+returns c = rw c.own_parents-parent.ensures (refl, fresh_well)

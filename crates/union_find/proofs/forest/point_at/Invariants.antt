@@ -1,0 +1,14 @@
+-- `point_at` meets its contract. Invariant: pointing the rest gives `compressed` (`Pointing`). Measure: the parent steps that
+-- are left.
+use mathlib.Core.Logic.{◌≢◌}
+use mathlib.Core.Path.{sym, ◌∙◌}
+use native.Mathlib.Omega.{arith}
+use Rattle.union_find.proofs.Laws.Forest.{root_inside, steps_left}
+use Rattle.union_find.proofs.Laws.Compression.{Pointing, pointing_none, pointing_less, pointing_more, pointing_done}
+use Rattle.union_find.proofs.forest.point_at.Given as goal
+
+abbrev pub invariant-loop-c : goal.invariant-loop-c
+invariant-loop-c l = Pointing l.initial.parent l.x l.r l.parent l.c
+
+abbrev pub decreases-loop-c : goal.decreases-loop-c
+decreases-loop-c l = steps_left l.parent l.c

@@ -1,0 +1,12 @@
+-- `root_above` meets its contract. Invariant: r is a polygon with the root of x. Measure: the parent steps that are left.
+use Prim.Native.Nat.{◌<◌}
+use mathlib.Core.Path.{◌≡◌, refl, sym, ◌∙◌}
+use Rattle.union_find.specs.Forest.{max_polygons, root_of, Rooted}
+use Rattle.union_find.proofs.Laws.Forest.{root_step, root_at_root, steps_left, steps_less}
+use Rattle.union_find.proofs.forest.root_above.Given as goal
+
+abbrev pub invariant-loop-r : goal.invariant-loop-r
+invariant-loop-r l = Rooted l.parent × (l.r < max_polygons) × (root_of l.parent l.r ≡ root_of l.parent l.x)
+
+abbrev pub decreases-loop-r : goal.decreases-loop-r
+decreases-loop-r l = steps_left l.parent l.r
