@@ -13,8 +13,8 @@ import os
 import re
 import sys
 
-# A name that would read as a tactic of antt's, and one that would fall together with its lemma's: what they are called instead.
-OTHERWISE = {"first_of": "first_from", "firstOf": "first_from", "sameInt": "int_same"}
+# Names that would read as a tactic of antt's, or fall together with another: what they are called instead.
+OTHERWISE = {"first_of": "first_from", "firstOf": "first_from", "sameInt": "int_same", "layer-record": "layer_record_lem"}
 WORD = r"[^\s(){}\[\].,;:«»`'\"|@]+"
 DECLARED = re.compile(rf"^ *(?:(?:abbrev|unfoldable|pub) +)*({WORD})(?: [^\n]*?)? : ", re.M)
 IMPORTED = re.compile(r"Rattle\.(\w+)\.(?:specs|proofs)[^\s;{}]*\.\{([^}]*)\}")
@@ -85,6 +85,9 @@ def main():
         for n in known:
             if renamed[n] in words and renamed[n] not in known and path not in edits and path not in sources:
                 wrong.append(f"{path}: {n} would become {renamed[n]}, which stands there already")
+        for m in {renamed[n] for n in known}:
+            if len(both := sorted(n for n in known if renamed[n] == m and n in words)) > 1:
+                wrong.append(f"{path}: {both} would all be {m}")
         after[path] = re.sub(WORD, lambda m: renamed[m.group(0)] if m.group(0) in known else m.group(0), text)
 
     made = {}

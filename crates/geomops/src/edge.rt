@@ -12,7 +12,7 @@ pub fn crossing(a: Point, b: Point, y: f64) -> f64
 }
 
 // On which side of a line a point is: at or below it, or strictly above. A NaN is on neither.
-#[derive(Drop)]
+#[derive(Clone, Copy)]
 pub struct Side {
     pub low: bool,
     pub high: bool,

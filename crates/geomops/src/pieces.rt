@@ -15,7 +15,7 @@ use crate::minus::push_left;
 use crate::rects::{Pieces, Rect};
 
 // What becomes of the first ring's intervals: the second's are taken away from them, or what they share is kept.
-#[derive(Drop)]
+#[derive(Clone, Copy)]
 pub enum Operation {
     Minus,
     Intersection,

@@ -5,7 +5,7 @@ ghost use Rattle.geomops.specs.Rects.{area_of, ring_of, bbox_of, room_in, rect_a
 
 use geometry::{Bbox, Point, maximum};
 
-#[derive(Drop)]
+#[derive(Clone, Copy)]
 pub struct Rect {
     pub x0: f64,
     pub y0: f64,
@@ -14,7 +14,7 @@ pub struct Rect {
 }
 
 // What became of rectangles to be written: how many there are, or that the list has no room for all.
-#[derive(Drop)]
+#[derive(Clone, Copy)]
 pub enum Pieces {
     Made(usize),
     NoRoom,

@@ -47,24 +47,24 @@ pub record StackTable (table : List ℕ) : Type 0 where
 -- what an accepted extraction takes
 pub record Accepted (job : Job) : Type 0 where
   pub polygons : Polygons job.layout
-  pub layers : LayerTable job.layout.layerNumbers job.layout.layerNames
+  pub layers : LayerTable job.layout.layer_numbers job.layout.layer_names
   pub conducting : NameMap job.conducting
   pub via : NameMap job.via
   pub stack : StackTable job.stack
-  pub ports : PairTable job.portNames
-  pub port_points : length job.portPoints ≡ length job.portNames / 64 * 2
-  pub port_coordinates : AllOf coordinate job.portPoints
+  pub ports : PairTable job.port_names
+  pub port_points : length job.port_points ≡ length job.port_names / 64 * 2
+  pub port_coordinates : AllOf coordinate job.port_points
 
 -- the room that its lent lists have, by their lengths
 pub record Room (job : Job) (a b c : ℕ) : Type 0 where
   pub components : length job.layout.lengths ≤ a
   pub connections : connection_room ≤ b
-  pub landings : length job.portNames / 64 ≤ c
+  pub landings : length job.port_names / 64 ≤ c
 
 -- what an accepted cut, and accepted channel regions, take
 pub record AcceptedCut (job : CutJob) : Type 0 where
   pub polygons : Polygons job.layout
-  pub layers : LayerTable job.layout.layerNumbers job.layout.layerNames
+  pub layers : LayerTable job.layout.layer_numbers job.layout.layer_names
   pub gate : name_allowed job.gate ≡ true
   pub active : name_allowed job.active ≡ true
 

@@ -34,13 +34,13 @@ place_of (Name k) = k
 place_of (OverResult k) = k
 
 -- 0 and 0 for an accepted call
-abbrev pub answerNumber : Admission → ℕ
-answerNumber Granted = 0
-answerNumber (Refused why) = number_of why
+abbrev pub answer_number : Admission → ℕ
+answer_number Granted = 0
+answer_number (Refused why) = number_of why
 
-abbrev pub answerPlace : Admission → ℕ
-answerPlace Granted = 0
-answerPlace (Refused why) = place_of why
+abbrev pub answer_place : Admission → ℕ
+answer_place Granted = 0
+answer_place (Refused why) = place_of why
 
 -- ---- places counted through several lists
 
@@ -51,88 +51,88 @@ counted n Clear (At k) = At (n + k)
 counted n Clear Clear = Clear
 
 -- answer 4: the coordinates of the ports counted after those of the points
-unfoldable pub badCoordinates : List Float → List Float → Scan
-badCoordinates points portPoints = counted (length points) (bad_coordinate points) (bad_coordinate portPoints)
+unfoldable pub bad_coordinates : List Float → List Float → Scan
+bad_coordinates points port_points = counted (length points) (bad_coordinate points) (bad_coordinate port_points)
 
 -- answer 5 of the extraction: layers, conducting, via, stack, ports
-unfoldable pub badRecord : List ℤ → List ℕ → List ℕ → List ℕ → List ℕ → List ℕ → ℕ → Scan
-badRecord layerNumbers layerNames conducting via stack portNames portCoordinates =
-    counted (layer_count (length layerNumbers) (length layerNames)) (bad_layer layerNumbers layerNames)
+unfoldable pub bad_record : List ℤ → List ℕ → List ℕ → List ℕ → List ℕ → List ℕ → ℕ → Scan
+bad_record layer_numbers layer_names conducting via stack port_names portCoordinates =
+    counted (layer_count (length layer_numbers) (length layer_names)) (bad_layer layer_numbers layer_names)
     (counted (record_count (length conducting) 64) (bad_pair conducting)
     (counted (record_count (length via) 64) (bad_pair via)
     (counted (record_count (length stack) 96) (bad_stack stack)
-    (bad_port portNames portCoordinates))))
+    (bad_port port_names portCoordinates))))
 
 -- answer 5 of the cut and the channel regions: layers, then the gate's name, then the active's
-unfoldable pub badMark : List ℤ → List ℕ → List ℕ → List ℕ → Scan
-badMark layerNumbers layerNames gate active =
-    counted (layer_count (length layerNumbers) (length layerNames)) (bad_layer layerNumbers layerNames)
+unfoldable pub bad_mark : List ℤ → List ℕ → List ℕ → List ℕ → Scan
+bad_mark layer_numbers layer_names gate active =
+    counted (layer_count (length layer_numbers) (length layer_names)) (bad_layer layer_numbers layer_names)
     (first_true 0 (not (name_allowed gate) ∷ not (name_allowed active) ∷ []))
 
 -- ---- the answer
 
 -- refuses where a search found a place, and else goes on to the next test
-abbrev pub refuseAt : (ℕ → Refusal) → Scan → Admission → Admission
-refuseAt why (At k) next = Refused (why k)
-refuseAt why Clear next = next
+abbrev pub refuse_at : (ℕ → Refusal) → Scan → Admission → Admission
+refuse_at why (At k) next = Refused (why k)
+refuse_at why Clear next = next
 
-abbrev pub refuseIf : Refusal → Bool → Admission → Admission
-refuseIf why true next = Refused why
-refuseIf why false next = next
+abbrev pub refuse_if : Refusal → Bool → Admission → Admission
+refuse_if why true next = Refused why
+refuse_if why false next = next
 
 -- the answer, from what each of the five tests says
 abbrev pub answer_of : Scan → Scan → Bool → Scan → Scan → Admission
 answer_of short over odd coordinate name =
-    refuseAt ShortList short (refuseAt OverCount over (refuseIf Uneven odd (refuseAt Coordinate coordinate (refuseAt Name name Granted))))
+    refuse_at ShortList short (refuse_at OverCount over (refuse_if Uneven odd (refuse_at Coordinate coordinate (refuse_at Name name Granted))))
 
-abbrev pub unevenIn : Layout → Bool
-unevenIn l = uneven (length l.points) l.lengths (length l.layers)
+abbrev pub uneven_in : Layout → Bool
+uneven_in l = uneven (length l.points) l.lengths (length l.layers)
 
 -- the extraction, with the lengths of its lent lists
-unfoldable pub admitExtraction : Job → ℕ → ℕ → ℕ → Admission
-admitExtraction job components connections landings = answer_of
-    (short_extraction (length job.layout.lengths) (port_count (length job.portNames) (length job.portPoints)) components connections landings)
+unfoldable pub admit_extraction : Job → ℕ → ℕ → ℕ → Admission
+admit_extraction job components connections landings = answer_of
+    (short_extraction (length job.layout.lengths) (port_count (length job.port_names) (length job.port_points)) components connections landings)
     (over_extraction job)
-    (unevenIn job.layout)
-    (badCoordinates job.layout.points job.portPoints)
-    (badRecord job.layout.layerNumbers job.layout.layerNames job.conducting job.via job.stack job.portNames (length job.portPoints))
+    (uneven_in job.layout)
+    (bad_coordinates job.layout.points job.port_points)
+    (bad_record job.layout.layer_numbers job.layout.layer_names job.conducting job.via job.stack job.port_names (length job.port_points))
 
 -- the cut and the channel regions, by which of their lent lists is too short
-unfoldable pub admitMarked : CutJob → Scan → Admission
-admitMarked job short = answer_of
+unfoldable pub admit_marked : CutJob → Scan → Admission
+admit_marked job short = answer_of
     short
     (over_cut job.layout)
-    (unevenIn job.layout)
+    (uneven_in job.layout)
     (bad_coordinate job.layout.points)
-    (badMark job.layout.layerNumbers job.layout.layerNames job.gate job.active)
+    (bad_mark job.layout.layer_numbers job.layout.layer_names job.gate job.active)
 
-abbrev pub admitCut : CutJob → ℕ → ℕ → ℕ → Admission
-admitCut job coordinates lengths sources = admitMarked job (short_cut coordinates lengths sources)
+abbrev pub admit_cut : CutJob → ℕ → ℕ → ℕ → Admission
+admit_cut job coordinates lengths sources = admit_marked job (short_cut coordinates lengths sources)
 
-abbrev pub admitChannel : CutJob → ℕ → Admission
-admitChannel job coordinates = admitMarked job (short_channel coordinates)
+abbrev pub admit_channel : CutJob → ℕ → Admission
+admit_channel job coordinates = admit_marked job (short_channel coordinates)
 
 -- ---- what the answer leaves: on a refusal a lent list is its mark from end to end, else it is as it was
 
-unfoldable pub leftBy : {A : Type 0} → A → Admission → List A → List A
-leftBy mark Granted list = list
-leftBy mark (Refused why) list = replicate (length list) mark
+unfoldable pub left_by : {A : Type 0} → A → Admission → List A → List A
+left_by mark Granted list = list
+left_by mark (Refused why) list = replicate (length list) mark
 
 -- the answer of the extraction's door, and its lent lists at exit
 pub record EnteredExtraction (job : Job) (components connections landings components' connections' landings' : List ℕ) (r : Admission) : Type 0 where
-  pub answer : r ≡ admitExtraction job (length components) (length connections) (length landings)
-  pub components_left : components' ≡ leftBy empty_number r components
-  pub connections-left : connections' ≡ leftBy empty_number r connections
-  pub landings-left : landings' ≡ leftBy empty_number r landings
+  pub answer : r ≡ admit_extraction job (length components) (length connections) (length landings)
+  pub components_left : components' ≡ left_by empty_number r components
+  pub connections_left : connections' ≡ left_by empty_number r connections
+  pub landings_left : landings' ≡ left_by empty_number r landings
 
 -- the answer of the cut's door, and its lent lists at exit
 pub record EnteredCut (job : CutJob) (coordinates : List Float) (lengths sources : List ℕ) (coordinates' : List Float) (lengths' sources' : List ℕ) (r : Admission) : Type 0 where
-  pub answer : r ≡ admitCut job (length coordinates) (length lengths) (length sources)
-  pub coordinates-left : coordinates' ≡ leftBy empty_coordinate r coordinates
-  pub lengths-left : lengths' ≡ leftBy empty_number r lengths
-  pub sources-left : sources' ≡ leftBy empty_number r sources
+  pub answer : r ≡ admit_cut job (length coordinates) (length lengths) (length sources)
+  pub coordinates_left : coordinates' ≡ left_by empty_coordinate r coordinates
+  pub lengths_left : lengths' ≡ left_by empty_number r lengths
+  pub sources_left : sources' ≡ left_by empty_number r sources
 
 -- the answer of the channel regions' door, and its lent list at exit
 pub record EnteredChannel (job : CutJob) (coordinates coordinates' : List Float) (r : Admission) : Type 0 where
-  pub answer : r ≡ admitChannel job (length coordinates)
-  pub coordinates-left : coordinates' ≡ leftBy empty_coordinate r coordinates
+  pub answer : r ≡ admit_channel job (length coordinates)
+  pub coordinates_left : coordinates' ≡ left_by empty_coordinate r coordinates

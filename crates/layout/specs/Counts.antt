@@ -62,14 +62,14 @@ over_both lengths coordinates layers conducting via stack ports =
 
 -- a cut or channel regions
 abbrev pub over_cut : Layout → Scan
-over_cut l = over_layout l.lengths (length l.points) (layer_count (length l.layerNumbers) (length l.layerNames))
+over_cut l = over_layout l.lengths (length l.points) (layer_count (length l.layer_numbers) (length l.layer_names))
 
 -- an extraction
 abbrev pub over_extraction : Job → Scan
 over_extraction job =
-    over_both job.layout.lengths (length job.layout.points) (layer_count (length job.layout.layerNumbers) (length job.layout.layerNames))
+    over_both job.layout.lengths (length job.layout.points) (layer_count (length job.layout.layer_numbers) (length job.layout.layer_names))
     (record_count (length job.conducting) 64) (record_count (length job.via) 64) (record_count (length job.stack) 96)
-    (port_count (length job.portNames) (length job.portPoints))
+    (port_count (length job.port_names) (length job.port_points))
 
 -- ---- answer 3: half a pair, another number of layers than of rings, or rings that do not add up to the points
 

@@ -5,7 +5,7 @@ ghost use Rattle.std.specs.Prelude.{◌≡◌, length};
 ghost use Rattle.layout.specs.Job.{job_of, cut_job_of};
 ghost use Rattle.names.specs.Tables.{record_count};
 ghost use Rattle.layout.specs.Counts.{over_both};
-ghost use Rattle.layout.specs.Answers.{number_of, place_of, answerNumber, answerPlace, badCoordinates, badRecord, badMark, admitExtraction, admitMarked, admitCut, admitChannel, EnteredExtraction, EnteredCut, EnteredChannel};
+ghost use Rattle.layout.specs.Answers.{number_of, place_of, answer_number, answer_place, bad_coordinates, bad_record, bad_mark, admit_extraction, admit_marked, admit_cut, admit_channel, EnteredExtraction, EnteredCut, EnteredChannel};
 
 use crate::coordinates::bad_coordinate;
 use crate::counts::{
@@ -18,7 +18,7 @@ use names::fields::name_allowed;
 use names::tables::record_count;
 
 // Why a call is refused, and where.
-#[derive(Drop)]
+#[derive(Clone, Copy)]
 pub enum Refusal {
     ShortList(usize),
     OverCount(usize),
@@ -59,7 +59,7 @@ impl Refusal {
 }
 
 // Whether a call is let in.
-#[derive(Drop)]
+#[derive(Clone, Copy)]
 pub enum Admission {
     Granted,
     Refused(Refusal),
@@ -68,7 +68,7 @@ pub enum Admission {
 impl Admission {
     // The number of this answer in the table, 0 for an accepted call.
     pub fn number(self) -> usize
-        ensures { result ≡ answerNumber self }
+        ensures { result ≡ answer_number self }
     {
         match self {
             Admission::Granted => 0,
@@ -78,7 +78,7 @@ impl Admission {
 
     // Its place, 0 for an accepted call.
     pub fn place(self) -> usize
-        ensures { result ≡ answerPlace self }
+        ensures { result ≡ answer_place self }
     {
         match self {
             Admission::Granted => 0,
@@ -91,7 +91,7 @@ impl Admission {
 
 // The first coordinate out of bounds, those of the ports counted after the points.
 fn bad_coordinates(points: &[f64], port_points: &[f64]) -> Scan
-    ensures { result ≡ badCoordinates points.now port_points.now }
+    ensures { result ≡ bad_coordinates points.now port_points.now }
 {
     if let Scan::At(k) = bad_coordinate(points) {
         return Scan::At(k);
@@ -135,7 +135,7 @@ fn bad_record(
     port_names: &[u8],
     port_coordinates: usize,
 ) -> Scan
-    ensures { result ≡ badRecord layer_numbers.now layer_names.now conducting.now via.now
+    ensures { result ≡ bad_record layer_numbers.now layer_names.now conducting.now via.now
         stack.now port_names.now port_coordinates }
 {
     if let Scan::At(k) = bad_layer(layer_numbers, layer_names) {
@@ -162,7 +162,7 @@ fn bad_record(
 
 // The first record of a cut that is not allowed: the layer table, then the gate's name and the active's.
 fn bad_mark(layer_numbers: &[i16], layer_names: &[u8], gate: &[u8], active: &[u8]) -> Scan
-    ensures { result ≡ badMark layer_numbers.now layer_names.now gate.now active.now }
+    ensures { result ≡ bad_mark layer_numbers.now layer_names.now gate.now active.now }
 {
     if let Scan::At(k) = bad_layer(layer_numbers, layer_names) {
         return Scan::At(k);
@@ -195,7 +195,7 @@ pub fn admit_extraction(
     connections: usize,
     landings: usize,
 ) -> Admission
-    ensures { result ≡ admitExtraction (job_of points.now lengths.now layers.now layer_numbers.now
+    ensures { result ≡ admit_extraction (job_of points.now lengths.now layers.now layer_numbers.now
         layer_names.now conducting.now via.now stack.now port_names.now
         port_points.now) components connections landings }
 {
@@ -245,7 +245,7 @@ fn admit_marked(
     active: &[u8],
     short: Scan,
 ) -> Admission
-    ensures { result ≡ admitMarked (cut_job_of points.now lengths.now layers.now layer_numbers.now
+    ensures { result ≡ admit_marked (cut_job_of points.now lengths.now layers.now layer_numbers.now
         layer_names.now gate.now active.now) short }
 {
     if let Scan::At(k) = short {
@@ -280,7 +280,7 @@ pub fn admit_cut(
     cut_lengths: usize,
     sources: usize,
 ) -> Admission
-    ensures { result ≡ admitCut (cut_job_of points.now lengths.now layers.now layer_numbers.now
+    ensures { result ≡ admit_cut (cut_job_of points.now lengths.now layers.now layer_numbers.now
         layer_names.now gate.now active.now) cut_points cut_lengths sources }
 {
     let short = short_cut(cut_points, cut_lengths, sources);
@@ -307,7 +307,7 @@ pub fn admit_channel(
     active: &[u8],
     regions: usize,
 ) -> Admission
-    ensures { result ≡ admitChannel (cut_job_of points.now lengths.now layers.now layer_numbers.now
+    ensures { result ≡ admit_channel (cut_job_of points.now lengths.now layers.now layer_numbers.now
         layer_names.now gate.now active.now) regions }
 {
     let short = short_channel(regions);

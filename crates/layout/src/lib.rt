@@ -1,4 +1,5 @@
 // A layout: the rings of its polygons, and the front door, which admits an input or refuses it with a number and a place.
+#![tactic(auto)]
 
 pub mod bounds;
 pub mod coordinates;

@@ -26,7 +26,7 @@ use Rattle.geometry.specs.Coordinates.{coordinate}
 use Rattle.layout.specs.Coordinates.{bad_coordinate}
 use Rattle.layout.specs.Counts.{layer_count, port_count, short_extraction, short_cut, short_channel, long_ring, layout_tests, table_tests, over_layout, over_both, over_cut, over_extraction, uneven}
 use Rattle.layout.specs.Records.{bad_layer, bad_pair, bad_stack, bad_port}
-use Rattle.layout.specs.Answers.{counted, badCoordinates, badRecord, badMark, unevenIn, admitExtraction, admitMarked, admitCut, admitChannel}
+use Rattle.layout.specs.Answers.{counted, bad_coordinates, bad_record, bad_mark, uneven_in, admit_extraction, admit_marked, admit_cut, admit_channel}
 use Rattle.layout.specs.Accepted.{Polygons, Accepted, Room, AcceptedCut, CutRoom}
 use Rattle.layout.proofs.Laws.Rings.{start_within}
 use Rattle.layout.proofs.Laws.Passed.{Passed, passed, none_true, counted_here, counted_behind, neither, clear_of}
@@ -47,7 +47,7 @@ rings_small lengths h i = go (ltb i (length lengths)) refl
     go false e = omega (arith, get_or-eq_default lengths 0 (ltb-false i (length lengths) e))
 
 polygons : (l : Layout) → ltb max_polygons (length l.lengths) ≡ false → ltb max_points (length l.points / 2) ≡ false →
-    not (clear (long_ring l.lengths)) ≡ false → unevenIn l ≡ false → bad_coordinate l.points ≡ Clear → Polygons l
+    not (clear (long_ring l.lengths)) ≡ false → uneven_in l ≡ false → bad_coordinate l.points ≡ Clear → Polygons l
 unfolding uneven
 polygons l few points rings even coordinates =
     let pairs = neither (not (eqb (length l.points % 2) 0)) _ even in
@@ -58,7 +58,7 @@ polygons l few points rings even coordinates =
     let whole : 2 * total l.lengths ≡ length l.points = omega arith in
     record {
       few = ltb-false max_polygons (length l.lengths) few;
-      few-points = omega arith;
+      few_points = omega arith;
       small = rings_small l.lengths (clear_of (long_ring l.lengths) rings);
       whole = whole;
       inside = λ i. omega (arith, start_within l.lengths i);
@@ -68,41 +68,41 @@ polygons l few points rings even coordinates =
 
 -- ---- the theorems
 
-extraction_passed : (job : Job) (a b c : ℕ) → admitExtraction job a b c ≡ Granted →
-    Passed (short_extraction (length job.layout.lengths) (port_count (length job.portNames) (length job.portPoints)) a b c)
-    (over_extraction job) (unevenIn job.layout) (badCoordinates job.layout.points job.portPoints)
-    (badRecord job.layout.layerNumbers job.layout.layerNames job.conducting job.via job.stack job.portNames (length job.portPoints))
-unfolding admitExtraction
+extraction_passed : (job : Job) (a b c : ℕ) → admit_extraction job a b c ≡ Granted →
+    Passed (short_extraction (length job.layout.lengths) (port_count (length job.port_names) (length job.port_points)) a b c)
+    (over_extraction job) (uneven_in job.layout) (bad_coordinates job.layout.points job.port_points)
+    (bad_record job.layout.layer_numbers job.layout.layer_names job.conducting job.via job.stack job.port_names (length job.port_points))
+unfolding admit_extraction
 extraction_passed job a b c h = passed _ _ _ _ _ h
 
-marked_passed : (job : CutJob) (short : Scan) → admitMarked job short ≡ Granted →
-    Passed short (over_cut job.layout) (unevenIn job.layout) (bad_coordinate job.layout.points)
-    (badMark job.layout.layerNumbers job.layout.layerNames job.gate job.active)
-unfolding admitMarked
+marked_passed : (job : CutJob) (short : Scan) → admit_marked job short ≡ Granted →
+    Passed short (over_cut job.layout) (uneven_in job.layout) (bad_coordinate job.layout.points)
+    (bad_mark job.layout.layer_numbers job.layout.layer_names job.gate job.active)
+unfolding admit_marked
 marked_passed job short h = passed _ _ _ _ _ h
 
 -- no table has a record that is not allowed
 record RecordsClear (job : Job) : Type 0 where
-  pub layers : bad_layer job.layout.layerNumbers job.layout.layerNames ≡ Clear
+  pub layers : bad_layer job.layout.layer_numbers job.layout.layer_names ≡ Clear
   pub conducting : bad_pair job.conducting ≡ Clear
   pub via : bad_pair job.via ≡ Clear
   pub stack : bad_stack job.stack ≡ Clear
-  pub ports : bad_port job.portNames (length job.portPoints) ≡ Clear
+  pub ports : bad_port job.port_names (length job.port_points) ≡ Clear
 
 records_clear : (job : Job) →
-    badRecord job.layout.layerNumbers job.layout.layerNames job.conducting job.via job.stack job.portNames (length job.portPoints) ≡ Clear →
+    bad_record job.layout.layer_numbers job.layout.layer_names job.conducting job.via job.stack job.port_names (length job.port_points) ≡ Clear →
     RecordsClear job
-unfolding badRecord
+unfolding bad_record
 records_clear job h =
-    let layers = bad_layer job.layout.layerNumbers job.layout.layerNames in
-    let layer-records = layer_count (length job.layout.layerNumbers) (length job.layout.layerNames) in
+    let layers = bad_layer job.layout.layer_numbers job.layout.layer_names in
+    let layer-records = layer_count (length job.layout.layer_numbers) (length job.layout.layer_names) in
     let conducting = bad_pair job.conducting in
     let pairs = record_count (length job.conducting) 64 in
     let via = bad_pair job.via in
     let vias = record_count (length job.via) 64 in
     let stack = bad_stack job.stack in
     let stacks = record_count (length job.stack) 96 in
-    let ports = bad_port job.portNames (length job.portPoints) in
+    let ports = bad_port job.port_names (length job.port_points) in
     let h₁ = counted_behind layer-records layers (counted pairs conducting (counted vias via (counted stacks stack ports))) h in
     let h₂ = counted_behind pairs conducting (counted vias via (counted stacks stack ports)) h₁ in
     let h₃ = counted_behind vias via (counted stacks stack ports) h₂ in
@@ -115,62 +115,62 @@ records_clear job h =
     }
 
 -- an accepted extraction
-pub accepted : (job : Job) (a b c : ℕ) → admitExtraction job a b c ≡ Granted → Accepted job
-unfolding over_both badCoordinates
+pub accepted : (job : Job) (a b c : ℕ) → admit_extraction job a b c ≡ Granted → Accepted job
+unfolding over_both bad_coordinates
 accepted job a b c h =
     let p = extraction_passed job a b c h in
     let clear = records_clear job p.fifth in
-    let layers = layer_count (length job.layout.layerNumbers) (length job.layout.layerNames) in
+    let layers = layer_count (length job.layout.layer_numbers) (length job.layout.layer_names) in
     let pairs = record_count (length job.conducting) 64 in
     let vias = record_count (length job.via) 64 in
     let stacks = record_count (length job.stack) 96 in
-    let ports = port_count (length job.portNames) (length job.portPoints) in
+    let ports = port_count (length job.port_names) (length job.port_points) in
     let tests = none_true 0 (layout_tests job.layout.lengths (length job.layout.points) layers ++ table_tests pairs vias stacks ports) p.second in
     let points = bad_coordinate job.layout.points in
-    let port-points = bad_coordinate job.portPoints in
-    let ported = port_table job.portNames (length job.portPoints) (ltb-false max_records ports (tests 7)) clear.ports in
+    let port_points = bad_coordinate job.port_points in
+    let ported = port_table job.port_names (length job.port_points) (ltb-false max_records ports (tests 7)) clear.ports in
     record {
-      polygons = polygons job.layout (tests 0) (tests 1) (tests 2) p.third (counted_here (length job.layout.points) points port-points p.fourth);
-      layers = layer_table job.layout.layerNumbers job.layout.layerNames (ltb-false max_records layers (tests 3)) clear.layers;
+      polygons = polygons job.layout (tests 0) (tests 1) (tests 2) p.third (counted_here (length job.layout.points) points port_points p.fourth);
+      layers = layer_table job.layout.layer_numbers job.layout.layer_names (ltb-false max_records layers (tests 3)) clear.layers;
       conducting = name_map job.conducting (ltb-false max_records pairs (tests 4)) clear.conducting;
       via = name_map job.via (ltb-false max_records vias (tests 5)) clear.via;
       stack = stack_table job.stack (ltb-false max_records stacks (tests 6)) clear.stack;
       ports = ported.pairs;
-      port-points = ported.points;
-      port-coordinates = coordinates_allowed job.portPoints (counted_behind (length job.layout.points) points port-points p.fourth);
+      port_points = ported.points;
+      port_coordinates = coordinates_allowed job.port_points (counted_behind (length job.layout.points) points port_points p.fourth);
     }
 
 -- its lent lists are long enough
-pub room : (job : Job) (a b c : ℕ) → admitExtraction job a b c ≡ Granted → Room job a b c
+pub room : (job : Job) (a b c : ℕ) → admit_extraction job a b c ≡ Granted → Room job a b c
 unfolding short_extraction
 room job a b c h =
-    let ports = port_count (length job.portNames) (length job.portPoints) in
+    let ports = port_count (length job.port_names) (length job.port_points) in
     let tests = none_true 0 (ltb a (length job.layout.lengths) ∷ ltb b connection_room ∷ ltb c ports ∷ []) (extraction_passed job a b c h).first in
     record {
       components = ltb-false a (length job.layout.lengths) (tests 0);
       connections = ltb-false b connection_room (tests 1);
-      landings = omega (arith, ltb-false c ports (tests 2), le-max_left (record_count (length job.portNames) 64) (record_count (length job.portPoints) 2));
+      landings = omega (arith, ltb-false c ports (tests 2), le-max_left (record_count (length job.port_names) 64) (record_count (length job.port_points) 2));
     }
 
 -- an accepted cut, or accepted channel regions
-pub accepted_cut : (job : CutJob) (short : Scan) → admitMarked job short ≡ Granted → AcceptedCut job
-unfolding over_layout badMark
+pub accepted_cut : (job : CutJob) (short : Scan) → admit_marked job short ≡ Granted → AcceptedCut job
+unfolding over_layout bad_mark
 accepted_cut job short h =
     let p = marked_passed job short h in
-    let layers = layer_count (length job.layout.layerNumbers) (length job.layout.layerNames) in
+    let layers = layer_count (length job.layout.layer_numbers) (length job.layout.layer_names) in
     let tests = none_true 0 (layout_tests job.layout.lengths (length job.layout.points) layers) p.second in
-    let bad = bad_layer job.layout.layerNumbers job.layout.layerNames in
+    let bad = bad_layer job.layout.layer_numbers job.layout.layer_names in
     let marks = not (name_allowed job.gate) ∷ not (name_allowed job.active) ∷ [] in
     let names = none_true 0 marks (counted_behind layers bad (first_true 0 marks) p.fifth) in
     record {
       polygons = polygons job.layout (tests 0) (tests 1) (tests 2) p.third p.fourth;
-      layers = layer_table job.layout.layerNumbers job.layout.layerNames (ltb-false max_records layers (tests 3)) (counted_here layers bad (first_true 0 marks) p.fifth);
+      layers = layer_table job.layout.layer_numbers job.layout.layer_names (ltb-false max_records layers (tests 3)) (counted_here layers bad (first_true 0 marks) p.fifth);
       gate = not-false _ (names 0);
       active = not-false _ (names 1);
     }
 
 -- the cut's lent lists are long enough
-pub cut_room : (job : CutJob) (a b c : ℕ) → admitCut job a b c ≡ Granted → CutRoom a b c
+pub cut_room : (job : CutJob) (a b c : ℕ) → admit_cut job a b c ≡ Granted → CutRoom a b c
 unfolding short_cut
 cut_room job a b c h =
     let tests = none_true 0 (ltb a cut_coordinates ∷ ltb b cut_rings ∷ ltb c cut_rings ∷ []) (marked_passed job (short_cut a b c) h).first in
@@ -181,6 +181,6 @@ cut_room job a b c h =
     }
 
 -- the channel regions' lent list is long enough
-pub channel_room : (job : CutJob) (a : ℕ) → admitChannel job a ≡ Granted → channel_coordinates ≤ a
+pub channel_room : (job : CutJob) (a : ℕ) → admit_channel job a ≡ Granted → channel_coordinates ≤ a
 unfolding short_channel
 channel_room job a h = ltb-false a channel_coordinates (none_true 0 (ltb a channel_coordinates ∷ []) (marked_passed job (short_channel a) h).first 0)

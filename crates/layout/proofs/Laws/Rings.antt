@@ -108,7 +108,7 @@ module _ {points : List Float} {lengths starts : List ℕ} (r : RingsIn points l
 module _ {l : Layout} (p : Polygons l) where
   -- their starts can be written
   pub starts_fit : 2 * total l.lengths ≤ 2 * max_points
-  starts_fit = omega (arith, p.whole, p.few-points)
+  starts_fit = omega (arith, p.whole, p.few_points)
 
   -- and then every ring is at hand
   pub rings_ready : {before starts : List ℕ} → Front (starts_of l.lengths) before starts (length l.lengths + 1) → RingsIn l.points l.lengths starts

@@ -32,9 +32,9 @@ record LayerRecord (numbers : List ℤ) (names : List ℕ) (k : ℕ) : Type 0 wh
   pub whole : k * 32 + 32 ≤ length names
   pub first : layer_record numbers (get_or numbers k (pos 0)) ≡ At k
 
-layer_record : (numbers : List ℤ) (names : List ℕ) (k : ℕ) → layer_allowed numbers names k ≡ true → LayerRecord numbers names k
+layer_record_lem : (numbers : List ℤ) (names : List ℕ) (k : ℕ) → layer_allowed numbers names k ≡ true → LayerRecord numbers names k
 unfolding layer_named layer_allowed
-layer_record numbers names k h =
+layer_record_lem numbers names k h =
     let outer = both (layer_named numbers names k) _ h in
     let inner = both (ltb k (length numbers)) _ outer.0 in
     record {
@@ -62,7 +62,7 @@ layer_table numbers names few h = record {
     named = le-max_right (length numbers) (record_count (length names) 32)
 
     each : (k : ℕ) → k < layer_count (length numbers) (length names) → LayerRecord numbers names k
-    each k below = layer_record numbers names k
+    each k below = layer_record_lem numbers names k
         (not-false _ (found_none (λ k. not (layer_allowed numbers names k)) 0 (layer_count (length numbers) (length names)) h k zero-le below))
 
     size : (n : ℕ) → layer_count (length numbers) (length names) ≡ n → length names ≡ length numbers * 32

@@ -1,0 +1,13 @@
+-- `layout::rings::ring_starts` meets its contract: the starts written so far are a front of the work list. Assumes nothing.
+use Prim.Native.Nat.{◌-◌}
+use mathlib.Core.Path.{refl}
+use native.Mathlib.Omega.{arith}
+use lib.ListN.{length}
+use Rattle.layout.proofs.Laws.Rings.{Starting, starting_none, starting_on, starting_ends, start_within}
+use Rattle.layout.proofs.rings.ring_starts.Given as goal
+
+abbrev pub invariant-loop-i : goal.invariant-loop-i
+invariant-loop-i l = Starting l.lengths l.initial.starts l.starts l.at l.i
+
+abbrev pub decreases-loop-i : goal.decreases-loop-i
+decreases-loop-i l = length l.lengths - l.i
