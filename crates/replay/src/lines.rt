@@ -1,15 +1,31 @@
 // Lines in a buffer that is filled up from standard input.
-ghost use Rattle.std.specs.Prelude.{◌+◌, ◌≤◌, ◌<◌, length};
+ghost use Rattle.std.specs.Prelude.{◌+◌, ◌≤◌, ◌<◌, length, IfOk};
 
 use crate::answers::answer;
-use libc::{STDIN_FILENO, STDOUT_FILENO};
+use std::io::{self, Read, Write};
+
+// Reads until a buffer is full or the input is at its end; how many bytes there are.
+fn read_full<R: Read>(source: &mut R, buffer: &mut [u8]) -> io::Result<usize>
+    ensures { IfOk result (λ n. n ≤ length buffer.new) }
+{
+    let mut done = 0;
+    while done < buffer.len() {
+        let n = source.read(&mut buffer[done..])?;
+        if n == 0 {
+            return Ok(done);
+        }
+        done += n;
+    }
+    Ok(done)
+}
 
 // Reads more bytes behind the first `have`; how many there are then.
-fn read_behind(text: &mut [u8], have: usize) -> usize
+fn read_behind<R: Read>(source: &mut R, text: &mut [u8], have: usize) -> io::Result<usize>
     requires { have ≤ length text.old }
-    ensures { result ≤ length text.new }
+    ensures { IfOk result (λ n. n ≤ length text.new) }
 {
-    have + io::read_full(STDIN_FILENO, &mut text[have..])
+    let more = read_full(source, &mut text[have..])?;
+    Ok(have + more)
 }
 
 // How many of the first `have` bytes are whole lines, with their line feeds.
@@ -57,38 +73,52 @@ fn line_end(text: &[u8], at: usize) -> usize
 }
 
 // Writes the first n bytes, if there are so many.
-fn write_front(text: &[u8], n: usize) {
+fn write_front<W: Write>(sink: &mut W, text: &[u8], n: usize) -> io::Result<()> {
     if n <= text.len() {
-        io::write_all(STDOUT_FILENO, &text[..n]);
+        sink.write_all(&text[..n])?;
     }
+    Ok(())
 }
 
 // Answers the lines of a text, one after the other.
-fn answer_lines(text: &[u8], rings: &mut [f64], output: &mut [u8]) {
+fn answer_lines<W: Write>(
+    sink: &mut W,
+    text: &[u8],
+    rings: &mut [f64],
+    output: &mut [u8],
+) -> io::Result<()> {
     let mut at = 0;
     while at < text.len() {
         let end = line_end(text, at);
         let n = answer(&text[at..end], rings, output);
-        write_front(output, n);
+        write_front(sink, output, n)?;
         at = end + 1;
     }
+    Ok(())
 }
 
 // How often the input is filled up, at most.
 const FILLS: usize = 1000000000;
 
 // Answers standard input, as many whole lines at a time as the input's buffer holds.
-pub fn answer_all(input: &mut [u8], rings: &mut [f64], output: &mut [u8]) {
+pub fn answer_all<R: Read, W: Write>(
+    source: &mut R,
+    sink: &mut W,
+    input: &mut [u8],
+    rings: &mut [f64],
+    output: &mut [u8],
+) -> io::Result<()> {
     let mut have = 0;
     let mut fill: usize = 0;
     while fill < FILLS {
         fill += 1;
-        have = read_behind(input, have);
+        have = read_behind(source, input, have)?;
         let whole = whole_lines(input, have);
         if whole == 0 {
-            return;
+            return Ok(());
         }
-        answer_lines(&input[..whole], rings, output);
+        answer_lines(sink, &input[..whole], rings, output)?;
         have = move_down(input, whole, have);
     }
+    Ok(())
 }
