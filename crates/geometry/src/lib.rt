@@ -1,6 +1,7 @@
 // Numbers, points, boxes, cells and areas: what geometry.rs gives the connectivity part.
 // A ring is a flat list of coordinates in metres, x then y of each point; a last number without its partner counts for nothing.
 #![tactic(auto)]
+
 pub mod area;
 pub mod boxes;
 pub mod number;

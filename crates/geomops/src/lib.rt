@@ -1,6 +1,7 @@
 // Crossings, bands and rectangles: rings in the plane by the intervals that they have on horizontal lines.
 // A ring is a flat list of coordinates in metres, x then y of each point. Work lists are lent by the caller.
 #![tactic(auto)]
+
 pub mod edge;
 pub mod heights;
 pub mod intersection;

@@ -1,6 +1,7 @@
 // What every loop over a lent list needs: the first place that a search finds, and the fills with the empty marks.
 // The laws of a written front, of filling, of scanning and of gathering stand in proofs/Laws.
 #![tactic(auto)]
+
 ghost use Rattle.std.specs.Prelude.{◌≡◌};
 ghost use Rattle.lists.specs.Marks.{empty_number, empty_coordinate};
 ghost use Rattle.lists.specs.Fills.{filled_from};

@@ -1,5 +1,6 @@
 // Union-find over at most 512 polygons. The table goes in by value and comes back: a method takes it and hands it on.
 #![tactic(auto)]
+
 ghost use Rattle.std.specs.Prelude.{◌≡◌, ◌<◌};
 ghost use Rattle.union_find.specs.Forest.{max_polygons, root_of};
 ghost use Rattle.union_find.specs.Table.{WellFormed, fresh, looked, joined, Keeps, Unites};

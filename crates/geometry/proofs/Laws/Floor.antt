@@ -1,5 +1,5 @@
 -- Laws of `floor_of`, one for each way through `floor` and `size_up`. A finite x is n / d in size, with n = m * up e and d = down e. Assumes nothing.
-use Rattle.std.proofs.Common.{◌≡◌, ℕ, zero, suc, ◌+◌, ◌-◌, ◌*◌, ◌/◌, ◌%◌, ◌^◌, ◌<◌, ◌≤◌, min, Bool, true, false, cond, not, ◌&&◌, ◌||◌, T, eqb, ltb, leb, ℤ, pos, negsuc, ◌-ℤ◌, neg_ℤ, sym, refl, ap, ◌∙◌, true≢false, zero-le, le_trans, le_of_eq, le_refl, le_of_lt, mul-le-mul_right, div-lt_iff_lt-mul, mul-lt-mul_of_pos_right, le-div_iff_mul-le, mul-one, mul_right_comm, div-one, arith, lit<, eqb→eq, ltb→lt, lt→ltb, nltb→le, pow_pos, to_z-of_z, w64, SFits, to_z, of_z, ltb-false, ltb-true, le-ltb, lt-ltb}
+use Rattle.std.proofs.Common.{◌≡◌, ℕ, zero, suc, ◌+◌, ◌*◌, ◌/◌, ◌%◌, ◌^◌, ◌<◌, ◌≤◌, min, Bool, true, false, cond, not, ◌&&◌, ◌||◌, T, eqb, ltb, leb, ℤ, pos, negsuc, ◌-ℤ◌, neg_ℤ, sym, refl, ap, ◌∙◌, true≢false, zero-le, le_trans, le_of_eq, le_refl, le_of_lt, mul-le-mul_right, div-lt_iff_lt-mul, mul-lt-mul_of_pos_right, le-div_iff_mul-le, mul-one, mul_right_comm, div-one, arith, lit<, eqb→eq, ltb→lt, lt→ltb, nltb→le, pow_pos, to_z-of_z, w64, SFits, to_z, of_z, ltb-false, ltb-true, le-ltb, lt-ltb}
 use native.Mathlib.Nat.{zero-div}
 use borrow.Author.Tests.{eqb-false}
 use lib.IntN.{+ℤ_idl}

@@ -1,7 +1,6 @@
 -- `geometry::area::cross` meets its contract. Assumes nothing.
 use Rattle.std.proofs.Common.{refl}
 use Rattle.geometry.specs.Area.{cross_of}
-use borrow.Author.Rules.{rules}
 use Rattle.geometry.proofs.area.cross.Goals as goal
 
 pub returns : goal.returns

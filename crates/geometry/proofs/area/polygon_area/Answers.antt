@@ -1,8 +1,7 @@
 -- `geometry::area::polygon_area` meets its contract. Assumes nothing.
-use Rattle.std.proofs.Common.{ap, ◌∙◌, rules}
+use Rattle.std.proofs.Common.{ap, ◌∙◌}
 use Rattle.geometry.specs.Number.{size_of}
 use Rattle.geometry.specs.Area.{area_of}
-use borrow.Author.Rules.{rules}
 use Rattle.geometry.proofs.area.polygon_area.Goals as goal
 
 pub returns : goal.returns

@@ -1,7 +1,6 @@
-use Rattle.std.proofs.Common.{◌-◌, refl, arith, rules, le-ltb, lt-ltb}
+use Rattle.std.proofs.Common.{refl, arith, le-ltb, lt-ltb}
 use Rattle.geometry.specs.Area.{cross_sum, signed_area_of}
-use Rattle.geometry.proofs.Laws.Area.{Summing, sum_next, sum_last}
-use borrow.Author.Rules.{rules}
+use Rattle.geometry.proofs.Laws.Area.{sum_next, sum_last}
 use Rattle.geometry.proofs.area.polygon_signed_area.Goals as goal
 
 pub returns-then-n-lt3 : goal.returns-then-n-lt3

@@ -1,7 +1,6 @@
 -- `geometry::area::polygon_signed_area` meets its contract: the loop is that of `proofs/Laws/Area.antt`. Assumes nothing.
-use Rattle.std.proofs.Common.{◌-◌, refl, arith, rules, le-ltb, lt-ltb}
-use Rattle.geometry.specs.Area.{cross_sum, signed_area_of}
-use Rattle.geometry.proofs.Laws.Area.{Summing, sum_next, sum_last}
+use Rattle.std.proofs.Common.{◌-◌}
+use Rattle.geometry.proofs.Laws.Area.{Summing}
 use Rattle.geometry.proofs.area.polygon_signed_area.Given as goal
 
 abbrev pub invariant-loop-i : goal.invariant-loop-i

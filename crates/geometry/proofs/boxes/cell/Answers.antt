@@ -1,8 +1,7 @@
 -- `geometry::boxes::cell` meets its contract. Assumes nothing.
-use Rattle.std.proofs.Common.{◌-◌, ◌∙◌, rules}
+use Rattle.std.proofs.Common.{◌∙◌}
 use Rattle.geometry.specs.Cells.{cell_of}
 use Rattle.geometry.proofs.Laws.Signed.{signed}
-use borrow.Author.Rules.{rules}
 use Rattle.geometry.proofs.boxes.cell.Goals as goal
 
 pub returns : goal.returns

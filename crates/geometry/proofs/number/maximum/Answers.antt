@@ -1,6 +1,5 @@
 -- `geometry::number::maximum` meets its contract. Assumes nothing.
 use Rattle.geometry.specs.Number.{greater}
-use borrow.Author.Rules.{rules}
 use Rattle.geometry.proofs.number.maximum.Goals as goal
 
 pub returns-then-a-b : goal.returns-then-a-b

@@ -1,6 +1,5 @@
 -- `geometry::number::minimum` meets its contract. Assumes nothing.
 use Rattle.geometry.specs.Number.{lesser}
-use borrow.Author.Rules.{rules}
 use Rattle.geometry.proofs.number.minimum.Goals as goal
 
 pub returns-then-b-a : goal.returns-then-b-a

@@ -1,7 +1,6 @@
 -- `geometry::number::size_up` meets its contract: a whole part below 2 ^ 53 is compared with a, and from there on every f64 is whole. Assumes nothing.
 use Rattle.std.proofs.Common.{◌^◌, ◌<◌, ◌≤◌, sym, ◌∙◌, add-one, arith, le→leb, rules}
 use lib.Ieee.{in_float, to_unsigned}
-use Rattle.lists.proofs.Laws.Tests.{held}
 use Rattle.geometry.proofs.Laws.Floor.{can_cut, cut_small, size_by_test, size_whole}
 use borrow.Author.Rules.{rules}
 use Rattle.geometry.proofs.number.size_up.Goals as goal

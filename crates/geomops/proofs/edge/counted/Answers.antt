@@ -1,6 +1,5 @@
 -- `geomops::edge::counted` meets its contract: `||` as the code has it, of what `both` ensures. Assumes nothing.
 use Rattle.geomops.specs.Edge.{counted_sides}
-use borrow.Author.Rules.{rules}
 use Rattle.geomops.proofs.edge.counted.Goals as goal
 
 pub returns-then-both : goal.returns-then-both

@@ -1,7 +1,6 @@
 -- `geomops::edge::crossing` meets its contract: the code is the definition. Assumes nothing.
 use mathlib.Core.Path.{refl}
 use Rattle.geomops.specs.Edge.{crossing_at}
-use borrow.Author.Rules.{rules}
 use Rattle.geomops.proofs.edge.crossing.Goals as goal
 
 pub returns : goal.returns

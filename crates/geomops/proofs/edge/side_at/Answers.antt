@@ -1,7 +1,6 @@
 -- `geomops::edge::side_at` meets its contract: what is at or below y is not above it. Assumes nothing.
 use Rattle.floats.proofs.Laws.Order.{le_not_lt}
 use Rattle.geomops.specs.Edge.{side_of}
-use borrow.Author.Rules.{rules}
 use Rattle.geomops.proofs.edge.side_at.Goals as goal
 
 pub returns-then-h-y : goal.returns-then-h-y

@@ -1,11 +1,9 @@
-use mathlib.Core.List.{flat_map}
-use Prim.Native.Nat.{◌≤◌, ◌<◌, ◌-◌}
+use Prim.Native.Nat.{◌≤◌, ◌<◌}
 use native.Mathlib.Omega.{arith}
-use lib.ListN.{length, take}
+use lib.ListN.{length}
 use Rattle.lists.proofs.Laws.Each.{each_none, each_next, each_all}
 use Rattle.geomops.specs.Crossings.{paired}
-use Rattle.geomops.specs.Rects.{wide, Pushed}
-use Rattle.geomops.specs.Pieces.{shared_part, pieces_of}
+use Rattle.geomops.specs.Pieces.{pieces_of}
 use Rattle.geomops.proofs.Laws.Pairs.{nowhere, length_paired, paired_at}
 use Rattle.geomops.proofs.Laws.Pushing.{pushed_none, pushed_more, pushed_length}
 use borrow.Author.Rules.{rules}

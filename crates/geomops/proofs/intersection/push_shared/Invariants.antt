@@ -1,14 +1,10 @@
 -- `geomops::intersection::push_shared` meets its contract. The invariant: the parts of the first k intervals are written. Assumes nothing.
 use mathlib.Core.List.{flat_map}
-use Prim.Native.Nat.{◌≤◌, ◌<◌, ◌-◌}
-use native.Mathlib.Omega.{arith}
-use lib.ListN.{length, take}
-use Rattle.lists.proofs.Laws.Each.{each_none, each_next, each_all}
+use Prim.Native.Nat.{◌≤◌, ◌-◌}
+use lib.ListN.{take}
 use Rattle.geomops.specs.Crossings.{paired}
 use Rattle.geomops.specs.Rects.{wide, Pushed}
-use Rattle.geomops.specs.Pieces.{shared_part, pieces_of}
-use Rattle.geomops.proofs.Laws.Pairs.{nowhere, length_paired, paired_at}
-use Rattle.geomops.proofs.Laws.Pushing.{pushed_none, pushed_more, pushed_length}
+use Rattle.geomops.specs.Pieces.{shared_part}
 use Rattle.geomops.proofs.intersection.push_shared.Given as goal
 
 abbrev pub invariant-loop-k : goal.invariant-loop-k

@@ -1,5 +1,4 @@
 -- `geomops::intersection::shared_part` meets its contract. Assumes nothing.
-use borrow.Author.Rules.{rules}
 use Rattle.geomops.proofs.intersection.shared_part.Goals as goal
 
 pub returns : goal.returns

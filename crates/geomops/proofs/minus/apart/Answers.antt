@@ -1,6 +1,5 @@
 -- `geomops::minus::apart` meets its contract: `||` as the code has it. Assumes nothing.
 use Rattle.geomops.specs.Pieces.{is_apart}
-use borrow.Author.Rules.{rules}
 use Rattle.geomops.proofs.minus.apart.Goals as goal
 
 pub returns-then-b1-r : goal.returns-then-b1-r

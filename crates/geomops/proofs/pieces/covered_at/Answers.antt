@@ -1,7 +1,6 @@
 -- `geomops::pieces::covered_at` meets its contract, by that of `x_intervals_at`. Assumes nothing.
 use Rattle.lists.proofs.Laws.Front.{front_none}
 use Rattle.geomops.proofs.Laws.Pieces.{covered_some, covered_none}
-use borrow.Author.Rules.{rules}
 use Rattle.geomops.proofs.pieces.covered_at.Goals as goal
 
 pub returns-then-b-lt3 : goal.returns-then-b-lt3

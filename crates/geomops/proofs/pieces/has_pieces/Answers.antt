@@ -1,7 +1,6 @@
 -- `geomops::pieces::has_pieces` meets its contract: a test for each operation. Assumes nothing.
 use borrow.Author.Tests.{le-leb, lt-leb}
 use Rattle.geomops.specs.Pieces.{enough}
-use borrow.Author.Rules.{rules}
 use Rattle.geomops.proofs.pieces.has_pieces.Goals as goal
 
 pub returns-in-Minus : goal.returns-in-Minus

@@ -2,7 +2,6 @@
 use mathlib.Core.Path.{sym, ◌∙◌}
 use Rattle.geomops.proofs.Laws.Pieces.{pieces_none, pieces_bands}
 use Rattle.geomops.proofs.Laws.Pushing.{pieced_none, pieced_over, pieced_fits}
-use borrow.Author.Rules.{rules}
 use Rattle.geomops.proofs.pieces.pieces_between.Goals as goal
 
 pub returns-then-out-made : goal.returns-then-out-made

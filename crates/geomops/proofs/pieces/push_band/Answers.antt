@@ -4,7 +4,6 @@ use native.Mathlib.Omega.{arith}
 use Rattle.lists.proofs.Laws.Front.{front_fits, front_count, front_read}
 use Rattle.geomops.proofs.Laws.Pieces.{band_flat, band_missed, band_spans}
 use Rattle.geomops.proofs.Laws.Pushing.{pushed_none}
-use borrow.Author.Rules.{rules}
 use Rattle.geomops.proofs.pieces.push_band.Goals as goal
 
 pub returns-then-y1-y0 : goal.returns-then-y1-y0

@@ -1,12 +1,9 @@
-use mathlib.Core.Path.{◌≡◌, refl}
-use mathlib.Core.List.{flat_map}
-use Prim.Native.Nat.{◌≤◌, ◌<◌, ◌-◌}
+use mathlib.Core.Path.{refl}
+use Prim.Native.Nat.{◌≤◌, ◌<◌}
 use native.Mathlib.Omega.{arith}
-use lib.ListN.{length, take}
+use lib.ListN.{length}
 use Rattle.lists.proofs.Laws.Each.{each_none, each_next, each_all}
 use Rattle.geomops.specs.Heights.{neighbours}
-use Rattle.geomops.specs.Rects.{Pushed}
-use Rattle.geomops.specs.Pieces.{band_pieces}
 use Rattle.geomops.proofs.Laws.Pairs.{nowhere, length_neighbours, neighbours_at}
 use Rattle.geomops.proofs.Laws.Pushing.{pushed_none, pushed_more, pushed_length}
 use borrow.Author.Rules.{rules}

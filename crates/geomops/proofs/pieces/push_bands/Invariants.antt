@@ -1,15 +1,11 @@
 -- `geomops::pieces::push_bands` meets its contract. The invariant: the pieces of the first k bands are written. Assumes nothing.
-use mathlib.Core.Path.{◌≡◌, refl}
+use mathlib.Core.Path.{◌≡◌}
 use mathlib.Core.List.{flat_map}
-use Prim.Native.Nat.{◌≤◌, ◌<◌, ◌-◌}
-use native.Mathlib.Omega.{arith}
+use Prim.Native.Nat.{◌≤◌, ◌-◌}
 use lib.ListN.{length, take}
-use Rattle.lists.proofs.Laws.Each.{each_none, each_next, each_all}
 use Rattle.geomops.specs.Heights.{neighbours}
 use Rattle.geomops.specs.Rects.{Pushed}
 use Rattle.geomops.specs.Pieces.{band_pieces}
-use Rattle.geomops.proofs.Laws.Pairs.{nowhere, length_neighbours, neighbours_at}
-use Rattle.geomops.proofs.Laws.Pushing.{pushed_none, pushed_more, pushed_length}
 use Rattle.geomops.proofs.pieces.push_bands.Given as goal
 
 abbrev pub invariant-loop-k : goal.invariant-loop-k

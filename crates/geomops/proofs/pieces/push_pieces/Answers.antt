@@ -1,5 +1,4 @@
 -- `geomops::pieces::push_pieces` meets its contract, by that of the function for each operation. Assumes nothing.
-use borrow.Author.Rules.{rules}
 use Rattle.geomops.proofs.pieces.push_pieces.Goals as goal
 
 pub returns-in-Minus : goal.returns-in-Minus

@@ -1,11 +1,8 @@
-use mathlib.Core.List.{flat_map}
-use Prim.Native.Nat.{◌≤◌, ◌<◌, ◌-◌}
+use Prim.Native.Nat.{◌≤◌, ◌<◌}
 use native.Mathlib.Omega.{arith}
-use lib.ListN.{length, take}
+use lib.ListN.{length}
 use Rattle.lists.proofs.Laws.Each.{each_none, each_next, each_all}
 use Rattle.geomops.specs.Crossings.{paired}
-use Rattle.geomops.specs.Rects.{Pushed}
-use Rattle.geomops.specs.Pieces.{rect_over, pieces_of}
 use Rattle.geomops.proofs.Laws.Pairs.{nowhere, length_paired, paired_at}
 use Rattle.geomops.proofs.Laws.Pushing.{pushed_none, pushed_more, pushed_length}
 use borrow.Author.Rules.{rules}

@@ -1,7 +1,6 @@
 -- `geomops::polygons::pieces_sorted` meets its contract, by those of `bands` and `pieces_between`. Assumes nothing.
 use mathlib.Core.Path.{sym}
 use Rattle.lists.proofs.Laws.Front.{front_fits, front_count, front_read}
-use borrow.Author.Rules.{rules}
 use Rattle.geomops.proofs.polygons.pieces_sorted.Goals as goal
 
 pub slice_bounds-pieces_between-end : goal.slice_bounds-pieces_between-end

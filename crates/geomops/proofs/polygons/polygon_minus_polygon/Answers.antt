@@ -2,7 +2,6 @@
 use mathlib.Core.Path.{sym}
 use Rattle.lists.proofs.Laws.Front.{front_fits, front_count, front_read}
 use Rattle.geomops.specs.Pieces.{minus_rects}
-use borrow.Author.Rules.{rules}
 use Rattle.geomops.proofs.polygons.polygon_minus_polygon.Goals as goal
 
 pub slice_bounds-pieces_between-end : goal.slice_bounds-pieces_between-end

@@ -1,7 +1,6 @@
 -- `geomops::rects::rect_at` meets its contract: the code is the definition. Assumes nothing.
 use mathlib.Core.Path.{refl}
 use Rattle.geomops.specs.Rects.{rect_at}
-use borrow.Author.Rules.{rules}
 use Rattle.geomops.proofs.rects.rect_at.Goals as goal
 
 pub returns : goal.returns

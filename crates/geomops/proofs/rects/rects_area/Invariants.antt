@@ -1,9 +1,7 @@
 -- `geomops::rects::rects_area` meets its contract. The invariant: the areas of the first i rectangles are summed. Assumes nothing.
-use mathlib.Core.Path.{◌≡◌, refl}
+use mathlib.Core.Path.{◌≡◌}
 use Prim.Native.Nat.{◌≤◌, ◌-◌}
-use native.Mathlib.Numerals.{add-one}
-use native.Mathlib.Omega.{arith}
-use Rattle.geomops.specs.Rects.{room_in, area_sum, rects_area}
+use Rattle.geomops.specs.Rects.{area_sum}
 use Rattle.geomops.proofs.rects.rects_area.Given as goal
 
 abbrev pub invariant-loop-i : goal.invariant-loop-i

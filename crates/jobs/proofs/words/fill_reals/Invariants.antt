@@ -1,5 +1,5 @@
 -- `jobs::words::fill_reals` is safe and ends. Assumes nothing.
-use Rattle.std.proofs.Common.{◌≡◌, ◌-◌, ◌≤◌, length, rules}
+use Rattle.std.proofs.Common.{◌≡◌, ◌-◌, ◌≤◌, length}
 use Rattle.jobs.proofs.words.fill_reals.Given as goal
 
 abbrev pub invariant-loop-i : goal.invariant-loop-i

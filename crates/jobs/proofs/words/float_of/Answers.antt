@@ -1,7 +1,6 @@
 -- `jobs::words::float_of` is safe: the patterns that it turns into floats are no NaN's. Assumes nothing.
-use Rattle.std.proofs.Common.{◌≡◌, ◌/◌, ◌%◌, Bool, true, false, not, ◌&&◌, T, eqb, rules, eq-eqb, ne_eqb}
+use Rattle.std.proofs.Common.{◌≡◌, ◌/◌, ◌%◌, Bool, true, false, not, ◌&&◌, T, eqb, eq-eqb, ne_eqb}
 use lib.Ieee.{nan_bits}
-use borrow.Author.Rules.{rules}
 use Rattle.jobs.proofs.words.float_of.Goals as goal
 
 no_digits : (a : Bool) {b : Bool} → b ≡ true → T (not (a && not b))

@@ -1,5 +1,5 @@
 -- `jobs::words::number_at` meets its contract. Assumes nothing.
-use Rattle.std.proofs.Common.{◌-◌, ◌<◌, length, rules}
+use Rattle.std.proofs.Common.{◌-◌, ◌<◌, length}
 use Rattle.jobs.proofs.words.number_at.Given as goal
 
 abbrev pub invariant-loop-i : goal.invariant-loop-i

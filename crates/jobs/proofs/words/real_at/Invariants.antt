@@ -1,5 +1,5 @@
 -- `jobs::words::real_at` is safe and ends. Assumes nothing.
-use Rattle.std.proofs.Common.{◌-◌, ◌<◌, ◌≤◌, rules}
+use Rattle.std.proofs.Common.{◌-◌, ◌<◌, ◌≤◌}
 use Rattle.jobs.proofs.words.real_at.Given as goal
 
 abbrev pub invariant-loop-i : goal.invariant-loop-i

@@ -1,6 +1,5 @@
 -- `jobs::words::ring_at` meets its contract. Assumes nothing.
-use Rattle.std.proofs.Common.{sym, arith, length-take-le, rules}
-use borrow.Author.Rules.{rules}
+use Rattle.std.proofs.Common.{sym, arith, length-take-le}
 use Rattle.jobs.proofs.words.ring_at.Goals as goal
 
 pub returns : goal.returns

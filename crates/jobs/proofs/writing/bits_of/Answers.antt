@@ -1,7 +1,6 @@
 -- `jobs::writing::bits_of` is safe: what equals itself is no NaN. Assumes nothing.
-use Rattle.std.proofs.Common.{◌≡◌, true, not, T, sym, true≢false, rules}
+use Rattle.std.proofs.Common.{◌≡◌, true, not, T, sym, true≢false}
 use lib.Ieee.{Float, nan, inf, fin, eq, is_nan}
-use borrow.Author.Rules.{rules}
 use Rattle.jobs.proofs.writing.bits_of.Goals as goal
 
 equals_itself : (x : Float) → eq x x ≡ true → T (not (is_nan x))

@@ -1,7 +1,6 @@
 -- `jobs::writing::magnitude` is safe: `std` says that each step to a number's size is defined. Assumes nothing.
-use Rattle.std.proofs.Common.{lit≤, w64, rules}
+use Rattle.std.proofs.Common.{lit≤, w64}
 use Rattle.std.proofs.num.Nearest.{Plain, Turned, plain, turn}
-use borrow.Author.Rules.{rules}
 use Rattle.jobs.proofs.writing.magnitude.Goals as goal
 use Rattle.jobs.proofs.writing.magnitude.Goals.{Else-z-ge0, Then-z-ge0}
 

@@ -1,5 +1,5 @@
 -- `jobs::writing::put_bytes` is safe and ends. Assumes nothing.
-use Rattle.std.proofs.Common.{◌≡◌, ◌-◌, ◌≤◌, length, rules}
+use Rattle.std.proofs.Common.{◌≡◌, ◌-◌, ◌≤◌, length}
 use Rattle.jobs.proofs.writing.put_bytes.Given as goal
 
 abbrev pub invariant-loop-i : goal.invariant-loop-i

@@ -1,14 +1,7 @@
 use mathlib.Core.Path.{sym, ◌∙◌}
-use mathlib.Core.Bool.{not}
-use Prim.Native.Nat.{◌-◌}
-use borrow.Author.Tests.{not-true, not-false}
-use Rattle.lists.proofs.Laws.Scans.{Scanning, scan_start, scan_stops, scan_goes_on, scan_ends}
+use Rattle.lists.proofs.Laws.Scans.{scan_start, scan_stops, scan_goes_on, scan_ends}
 use Rattle.lists.proofs.Laws.Tests.{not_of_true, not_of_false}
-use lib.Ieee.{nan}
-use lib.ListN.{length, get_or}
-use Rattle.geometry.specs.Coordinates.{coordinate}
 use Rattle.layout.specs.Coordinates.{bad_coordinate}
-use borrow.Author.Rules.{rules}
 use Rattle.layout.proofs.coordinates.bad_coordinate.Goals as goal
 
 pub loop-i-init : goal.loop-i-init

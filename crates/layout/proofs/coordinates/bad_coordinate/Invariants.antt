@@ -1,14 +1,10 @@
 -- `layout::coordinates::bad_coordinate` meets its contract: the loop is a scan. Assumes nothing.
-use mathlib.Core.Path.{sym, ◌∙◌}
 use mathlib.Core.Bool.{not}
 use Prim.Native.Nat.{◌-◌}
-use borrow.Author.Tests.{not-true, not-false}
-use Rattle.lists.proofs.Laws.Scans.{Scanning, scan_start, scan_stops, scan_goes_on, scan_ends}
-use Rattle.lists.proofs.Laws.Tests.{not_of_true, not_of_false}
+use Rattle.lists.proofs.Laws.Scans.{Scanning}
 use lib.Ieee.{nan}
 use lib.ListN.{length, get_or}
 use Rattle.geometry.specs.Coordinates.{coordinate}
-use Rattle.layout.specs.Coordinates.{bad_coordinate}
 use Rattle.layout.proofs.coordinates.bad_coordinate.Given as goal
 
 abbrev pub invariant-loop-i : goal.invariant-loop-i

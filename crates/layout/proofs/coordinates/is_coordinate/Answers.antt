@@ -1,7 +1,6 @@
 -- `layout::coordinates::is_coordinate` meets its contract: each way out has its law. Assumes nothing.
 use mathlib.Core.Path.{sym}
 use Rattle.layout.proofs.Laws.Coordinates.{too_low, too_high, at_zero, elsewhere}
-use borrow.Author.Rules.{rules}
 use Rattle.layout.proofs.coordinates.is_coordinate.Goals as goal
 
 pub returns-then-x : goal.returns-then-x

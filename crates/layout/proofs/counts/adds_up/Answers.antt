@@ -1,10 +1,7 @@
 use mathlib.Core.Path.{sym}
-use Prim.Native.Nat.{◌-◌}
 use native.Mathlib.Omega.{arith}
 use borrow.Author.Tests.{ne_eqb}
-use lib.ListN.{length}
-use Rattle.layout.proofs.Laws.Counting.{Adding, adding_start, adding_stops, adding_on, adding_ends}
-use borrow.Author.Rules.{rules}
+use Rattle.layout.proofs.Laws.Counting.{adding_start, adding_stops, adding_on, adding_ends}
 use Rattle.layout.proofs.counts.adds_up.Goals as goal
 
 pub loop-i-init : goal.loop-i-init

@@ -1,10 +1,7 @@
 -- `layout::counts::adds_up` meets its contract: what is left of the points is what the lengths passed leave of them. Assumes nothing.
-use mathlib.Core.Path.{sym}
 use Prim.Native.Nat.{◌-◌}
-use native.Mathlib.Omega.{arith}
-use borrow.Author.Tests.{ne_eqb}
 use lib.ListN.{length}
-use Rattle.layout.proofs.Laws.Counting.{Adding, adding_start, adding_stops, adding_on, adding_ends}
+use Rattle.layout.proofs.Laws.Counting.{Adding}
 use Rattle.layout.proofs.counts.adds_up.Given as goal
 
 abbrev pub invariant-loop-i : goal.invariant-loop-i

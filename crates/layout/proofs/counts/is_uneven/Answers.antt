@@ -3,7 +3,6 @@ use mathlib.Core.Path.{ap}
 use mathlib.Core.Bool.{not}
 use borrow.Author.Tests.{eq-eqb, ne_eqb}
 use Rattle.layout.specs.Counts.{uneven}
-use borrow.Author.Rules.{rules}
 use Rattle.layout.proofs.counts.is_uneven.Goals as goal
 
 pub returns-then-coordinates-ne0 : goal.returns-then-coordinates-ne0

@@ -1,12 +1,7 @@
 use mathlib.Core.Path.{sym}
-use Prim.Native.Nat.{◌-◌}
 use borrow.Author.Tests.{le-ltb, lt-ltb}
-use lib.Dec.{ltb}
-use lib.ListN.{length, get_or}
-use Rattle.lists.proofs.Laws.Scans.{Scanning, scan_start, scan_stops, scan_goes_on, scan_ends}
-use Rattle.layout.specs.Bounds.{max_ring}
+use Rattle.lists.proofs.Laws.Scans.{scan_start, scan_stops, scan_goes_on, scan_ends}
 use Rattle.layout.specs.Counts.{long_ring}
-use borrow.Author.Rules.{rules}
 use Rattle.layout.proofs.counts.long_ring.Goals as goal
 
 pub loop-i-init : goal.loop-i-init

@@ -1,12 +1,9 @@
 -- `layout::counts::long_ring` meets its contract: the loop is a scan. Assumes nothing.
-use mathlib.Core.Path.{sym}
 use Prim.Native.Nat.{◌-◌}
-use borrow.Author.Tests.{le-ltb, lt-ltb}
 use lib.Dec.{ltb}
 use lib.ListN.{length, get_or}
-use Rattle.lists.proofs.Laws.Scans.{Scanning, scan_start, scan_stops, scan_goes_on, scan_ends}
+use Rattle.lists.proofs.Laws.Scans.{Scanning}
 use Rattle.layout.specs.Bounds.{max_ring}
-use Rattle.layout.specs.Counts.{long_ring}
 use Rattle.layout.proofs.counts.long_ring.Given as goal
 
 abbrev pub invariant-loop-i : goal.invariant-loop-i

@@ -2,7 +2,6 @@
 use mathlib.Core.Path.{sym, ◌∙◌}
 use borrow.Author.Tests.{le-ltb, lt-ltb}
 use Rattle.layout.specs.Counts.{over_layout}
-use borrow.Author.Rules.{rules}
 use Rattle.layout.proofs.counts.over_layout.Goals as goal
 
 pub returns-then-lengths-gt-MAX_POLYGONS : goal.returns-then-lengths-gt-MAX_POLYGONS

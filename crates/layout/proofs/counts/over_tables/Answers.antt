@@ -1,7 +1,6 @@
 -- `layout::counts::over_tables` meets its contract: each way out rewrites with the tests that led there. Assumes nothing.
 use borrow.Author.Tests.{le-ltb, lt-ltb}
 use Rattle.layout.specs.Counts.{over_tables}
-use borrow.Author.Rules.{rules}
 use Rattle.layout.proofs.counts.over_tables.Goals as goal
 
 pub returns-then-conducting-gt-MAX_RECORDS : goal.returns-then-conducting-gt-MAX_RECORDS

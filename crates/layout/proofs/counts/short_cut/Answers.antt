@@ -1,7 +1,6 @@
 -- `layout::counts::short_cut` meets its contract: each way out rewrites with the tests that led there. Assumes nothing.
 use borrow.Author.Tests.{le-ltb, lt-ltb}
 use Rattle.layout.specs.Counts.{short_cut}
-use borrow.Author.Rules.{rules}
 use Rattle.layout.proofs.counts.short_cut.Goals as goal
 
 pub returns-then-coordinates-lt-CUT_COORDINATES : goal.returns-then-coordinates-lt-CUT_COORDINATES

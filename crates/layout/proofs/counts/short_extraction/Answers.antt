@@ -1,7 +1,6 @@
 -- `layout::counts::short_extraction` meets its contract: each way out rewrites with the tests that led there. Assumes nothing.
 use borrow.Author.Tests.{le-ltb, lt-ltb}
 use Rattle.layout.specs.Counts.{short_extraction}
-use borrow.Author.Rules.{rules}
 use Rattle.layout.proofs.counts.short_extraction.Goals as goal
 
 pub returns-then-components-polygons : goal.returns-then-components-polygons

@@ -1,7 +1,6 @@
 -- `layout::door::admit_marked` meets its contract: each way out hands the law of the answer what the tests said so far. Assumes nothing.
 use mathlib.Core.Path.{refl, sym, ◌∙◌}
 use Rattle.layout.proofs.Laws.Answers.{marked_judged}
-use borrow.Author.Rules.{rules}
 use Rattle.layout.proofs.door.admit_marked.Goals as goal
 
 pub returns-in-At : goal.returns-in-At

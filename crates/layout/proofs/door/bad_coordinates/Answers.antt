@@ -2,7 +2,6 @@
 use mathlib.Core.Path.{refl, sym, ◌∙◌}
 use native.Mathlib.Omega.{arith}
 use Rattle.layout.proofs.Laws.Answers.{coordinates_judged, bad_coordinate_below}
-use borrow.Author.Rules.{rules}
 use Rattle.layout.proofs.door.bad_coordinates.Goals as goal
 
 pub returns-in-At : goal.returns-in-At

@@ -1,10 +1,8 @@
 -- `layout::door::bad_mark` meets its contract: each way out hands the law of the answer what the tests said so far. Assumes nothing.
 use mathlib.Core.Path.{refl, sym, ap, ◌∙◌}
 use native.Mathlib.Omega.{arith}
-use borrow.Author.Tests.{not-true, not-false}
 use Rattle.lists.specs.declared.Scan.TheVariants.{At}
 use Rattle.layout.proofs.Laws.Answers.{marks_judged}
-use borrow.Author.Rules.{rules}
 use Rattle.layout.proofs.door.bad_mark.Goals as goal
 
 pub returns-in-At : goal.returns-in-At

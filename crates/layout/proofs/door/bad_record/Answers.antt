@@ -4,7 +4,6 @@ use native.Mathlib.Omega.{arith}
 use Rattle.lists.specs.declared.Scan.TheVariants.{At}
 use Rattle.layout.proofs.Laws.Records.{bad_pair_below, bad_stack_below, bad_port_below}
 use Rattle.layout.proofs.Laws.Answers.{records_judged}
-use borrow.Author.Rules.{rules}
 use Rattle.layout.proofs.door.bad_record.Goals as goal
 
 pub returns-in-At : goal.returns-in-At

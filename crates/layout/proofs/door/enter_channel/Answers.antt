@@ -1,7 +1,6 @@
 -- `layout::door::enter_channel` meets its contract: a refusal fills the lent lists, an accepted call leaves them. Assumes nothing.
 use Rattle.lists.specs.Marks.{empty_coordinate}
 use Rattle.layout.proofs.Laws.Answers.{left_refused, left_alone}
-use borrow.Author.Rules.{rules}
 use Rattle.layout.proofs.door.enter_channel.Goals as goal
 
 pub returns-in-Refused : goal.returns-in-Refused

@@ -1,7 +1,6 @@
 -- `layout::door::over_extraction` meets its contract: the counts of the layout decide, or else those of the tables. Assumes nothing.
 use mathlib.Core.Path.{sym, ◌∙◌}
 use Rattle.layout.proofs.Laws.Answers.{over_in_layout, over_in_tables}
-use borrow.Author.Rules.{rules}
 use Rattle.layout.proofs.door.over_extraction.Goals as goal
 
 pub returns-in-At : goal.returns-in-At

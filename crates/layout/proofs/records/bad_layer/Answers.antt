@@ -1,16 +1,12 @@
 use mathlib.Core.Path.{refl, sym, ap, ◌∙◌}
-use mathlib.Core.Bool.{not}
-use Prim.Native.Nat.{◌-◌}
-use borrow.Author.Tests.{not-true, not-false, eq-eqb, ne_eqb}
-use Rattle.lists.proofs.Laws.Scans.{Scanning, scan_start, scan_stops, scan_goes_on, scan_ends}
+use borrow.Author.Tests.{eq-eqb, ne_eqb}
+use Rattle.lists.proofs.Laws.Scans.{scan_start, scan_stops, scan_goes_on, scan_ends}
 use Rattle.lists.proofs.Laws.Tests.{not_of_true, not_of_false}
 use mir.Syntax.{w16}
 use mir.Facts.{to_z-of_z}
 use Rattle.names.specs.Tables.{layer_record}
 use native.Mathlib.Omega.{arith}
-use lib.ListN.{length}
-use Rattle.layout.specs.Counts.{layer_count}
-use Rattle.layout.specs.Records.{layer_allowed, bad_layer}
+use Rattle.layout.specs.Records.{bad_layer}
 use Rattle.layout.proofs.Laws.Records.{layer_judged, layer_there}
 use borrow.Author.Rules.{rules, sfits_of}
 use Rattle.layout.proofs.records.bad_layer.Goals as goal

@@ -1,15 +1,10 @@
 -- `layout::records::bad_pair` meets its contract: the loop is a scan over the records. Assumes nothing.
-use mathlib.Core.Path.{refl, sym, ◌∙◌}
 use mathlib.Core.Bool.{not}
 use Prim.Native.Nat.{◌-◌}
-use borrow.Author.Tests.{not-true, not-false, eq-eqb, ne_eqb}
-use Rattle.lists.proofs.Laws.Scans.{Scanning, scan_start, scan_stops, scan_goes_on, scan_ends}
-use Rattle.lists.proofs.Laws.Tests.{not_of_true, not_of_false}
-use native.Mathlib.Omega.{arith}
+use Rattle.lists.proofs.Laws.Scans.{Scanning}
 use lib.ListN.{length}
 use Rattle.names.specs.Tables.{record_count}
-use Rattle.layout.specs.Records.{pair_allowed, bad_pair}
-use Rattle.layout.proofs.Laws.Records.{pair_judged, pair_there}
+use Rattle.layout.specs.Records.{pair_allowed}
 use Rattle.layout.proofs.records.bad_pair.Given as goal
 
 abbrev pub invariant-loop-k : goal.invariant-loop-k

@@ -1,14 +1,8 @@
 use mathlib.Core.Path.{sym, ◌∙◌}
-use mathlib.Core.Bool.{not}
-use Prim.Native.Nat.{◌-◌}
-use borrow.Author.Tests.{not-true, not-false}
-use Rattle.lists.proofs.Laws.Scans.{Scanning, scan_start, scan_stops, scan_goes_on, scan_ends}
+use Rattle.lists.proofs.Laws.Scans.{scan_start, scan_stops, scan_goes_on, scan_ends}
 use Rattle.lists.proofs.Laws.Tests.{not_of_true, not_of_false}
 use native.Mathlib.Omega.{arith}
-use lib.ListN.{length}
-use Rattle.names.specs.Tables.{record_count}
-use Rattle.layout.specs.Records.{stack_allowed, bad_stack}
-use borrow.Author.Rules.{rules}
+use Rattle.layout.specs.Records.{bad_stack}
 use Rattle.layout.proofs.records.bad_stack.Goals as goal
 
 pub loop-k-init : goal.loop-k-init

@@ -1,14 +1,10 @@
 -- `layout::records::bad_stack` meets its contract: the loop is a scan over the records. Assumes nothing.
-use mathlib.Core.Path.{sym, ◌∙◌}
 use mathlib.Core.Bool.{not}
 use Prim.Native.Nat.{◌-◌}
-use borrow.Author.Tests.{not-true, not-false}
-use Rattle.lists.proofs.Laws.Scans.{Scanning, scan_start, scan_stops, scan_goes_on, scan_ends}
-use Rattle.lists.proofs.Laws.Tests.{not_of_true, not_of_false}
-use native.Mathlib.Omega.{arith}
+use Rattle.lists.proofs.Laws.Scans.{Scanning}
 use lib.ListN.{length}
 use Rattle.names.specs.Tables.{record_count}
-use Rattle.layout.specs.Records.{stack_allowed, bad_stack}
+use Rattle.layout.specs.Records.{stack_allowed}
 use Rattle.layout.proofs.records.bad_stack.Given as goal
 
 abbrev pub invariant-loop-k : goal.invariant-loop-k

@@ -1,7 +1,6 @@
 -- `layout::records::layer_named` meets its contract: each way out rewrites with the tests that led there. Assumes nothing.
 use mathlib.Core.Path.{sym, ◌∙◌}
 use Rattle.layout.proofs.Laws.Records.{layer_no_number, layer_short, layer_name}
-use borrow.Author.Rules.{rules}
 use Rattle.layout.proofs.records.layer_named.Goals as goal
 
 pub returns-then-k-numbers : goal.returns-then-k-numbers

@@ -1,8 +1,6 @@
 -- `layout::records::pair_named` meets its contract: each way out rewrites with the tests that led there. Assumes nothing.
 use mathlib.Core.Path.{sym, ◌∙◌}
-use borrow.Author.Tests.{not-true, not-false}
 use Rattle.layout.proofs.Laws.Records.{pair_short, pair_first, pair_second}
-use borrow.Author.Rules.{rules}
 use Rattle.layout.proofs.records.pair_named.Goals as goal
 
 pub returns-then-k-table : goal.returns-then-k-table

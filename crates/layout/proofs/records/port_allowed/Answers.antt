@@ -1,8 +1,6 @@
 -- `layout::records::port_allowed` meets its contract: each way out rewrites with the tests that led there. Assumes nothing.
 use mathlib.Core.Path.{sym, ◌∙◌}
-use borrow.Author.Tests.{not-true, not-false}
 use Rattle.layout.proofs.Laws.Records.{ported}
-use borrow.Author.Rules.{rules}
 use Rattle.layout.proofs.records.port_allowed.Goals as goal
 
 pub returns-then-not-pair_named : goal.returns-then-not-pair_named

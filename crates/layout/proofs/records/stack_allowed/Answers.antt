@@ -1,8 +1,6 @@
 -- `layout::records::stack_allowed` meets its contract: each way out rewrites with the tests that led there. Assumes nothing.
 use mathlib.Core.Path.{refl, sym, ◌∙◌}
-use borrow.Author.Tests.{not-true, not-false}
 use Rattle.layout.proofs.Laws.Records.{stack_short, stacked}
-use borrow.Author.Rules.{rules}
 use Rattle.layout.proofs.records.stack_allowed.Goals as goal
 
 pub returns-then-k-table : goal.returns-then-k-table

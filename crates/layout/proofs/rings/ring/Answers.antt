@@ -3,7 +3,6 @@ use mathlib.Core.Path.{sym}
 use Prim.Native.Nat.{◌+◌}
 use native.Mathlib.Omega.{arith}
 use Rattle.layout.proofs.Laws.Rings.{ring_none, ring_between, starts_ordered, starts_inside}
-use borrow.Author.Rules.{rules}
 use Rattle.layout.proofs.rings.ring.Goals as goal
 
 pub returns-then-lengths-i : goal.returns-then-lengths-i

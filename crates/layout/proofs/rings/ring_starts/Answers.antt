@@ -1,9 +1,6 @@
-use Prim.Native.Nat.{◌-◌}
 use mathlib.Core.Path.{refl}
 use native.Mathlib.Omega.{arith}
-use lib.ListN.{length}
-use Rattle.layout.proofs.Laws.Rings.{Starting, starting_none, starting_on, starting_ends, start_within}
-use borrow.Author.Rules.{rules}
+use Rattle.layout.proofs.Laws.Rings.{starting_none, starting_on, starting_ends, start_within}
 use Rattle.layout.proofs.rings.ring_starts.Goals as goal
 
 pub loop-i-init : goal.loop-i-init

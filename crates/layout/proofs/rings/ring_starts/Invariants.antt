@@ -1,9 +1,7 @@
 -- `layout::rings::ring_starts` meets its contract: the starts written so far are a front of the work list. Assumes nothing.
 use Prim.Native.Nat.{◌-◌}
-use mathlib.Core.Path.{refl}
-use native.Mathlib.Omega.{arith}
 use lib.ListN.{length}
-use Rattle.layout.proofs.Laws.Rings.{Starting, starting_none, starting_on, starting_ends, start_within}
+use Rattle.layout.proofs.Laws.Rings.{Starting}
 use Rattle.layout.proofs.rings.ring_starts.Given as goal
 
 abbrev pub invariant-loop-i : goal.invariant-loop-i

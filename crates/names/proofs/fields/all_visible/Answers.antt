@@ -1,9 +1,5 @@
-use Prim.Native.Nat.{◌-◌}
 use mathlib.Core.Path.{sym, ◌∙◌}
-use lib.ListN.{length}
-use Rattle.names.specs.Fields.{visible}
-use Rattle.names.proofs.Laws.Bytes.{Testing, testing_start, all_goes_on, all_stops, all_ends}
-use borrow.Author.Rules.{rules}
+use Rattle.names.proofs.Laws.Bytes.{testing_start, all_goes_on, all_stops, all_ends}
 use Rattle.names.proofs.fields.all_visible.Goals as goal
 
 pub loop-i-init : goal.loop-i-init

@@ -1,10 +1,6 @@
-use Prim.Native.Nat.{◌-◌}
 use mathlib.Core.Path.{sym}
 use borrow.Author.Tests.{eq-eqb, ne_eqb}
-use lib.ListN.{length}
-use Rattle.names.specs.Fields.{is_zero}
-use Rattle.names.proofs.Laws.Bytes.{Testing, testing_start, all_goes_on, all_stops, all_ends}
-use borrow.Author.Rules.{rules}
+use Rattle.names.proofs.Laws.Bytes.{testing_start, all_goes_on, all_stops, all_ends}
 use Rattle.names.proofs.fields.all_zero.Goals as goal
 
 pub loop-i-init : goal.loop-i-init

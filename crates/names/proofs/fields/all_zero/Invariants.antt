@@ -1,10 +1,8 @@
 -- `names::fields::all_zero` meets its contract: a walk along the bytes, of which those left decide. Assumes nothing.
 use Prim.Native.Nat.{◌-◌}
-use mathlib.Core.Path.{sym}
-use borrow.Author.Tests.{eq-eqb, ne_eqb}
 use lib.ListN.{length}
 use Rattle.names.specs.Fields.{is_zero}
-use Rattle.names.proofs.Laws.Bytes.{Testing, testing_start, all_goes_on, all_stops, all_ends}
+use Rattle.names.proofs.Laws.Bytes.{Testing}
 use Rattle.names.proofs.fields.all_zero.Given as goal
 
 abbrev pub invariant-loop-i : goal.invariant-loop-i

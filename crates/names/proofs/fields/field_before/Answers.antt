@@ -1,8 +1,6 @@
-use Prim.Native.Nat.{◌-◌}
 use mathlib.Core.Path.{sym, ◌∙◌}
 use Rattle.names.specs.Bytes.{before}
-use Rattle.names.proofs.Laws.Comparing.{Comparing, comparing_start, fields_before_on, fields_decided, fields_equal, before_first_short, before_second_short}
-use borrow.Author.Rules.{rules}
+use Rattle.names.proofs.Laws.Comparing.{comparing_start, fields_before_on, fields_decided, fields_equal, before_first_short, before_second_short}
 use Rattle.names.proofs.fields.field_before.Goals as goal
 
 pub returns-then-not-whole_at : goal.returns-then-not-whole_at

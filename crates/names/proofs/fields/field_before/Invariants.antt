@@ -1,9 +1,7 @@
 -- `names::fields::field_before` meets its contract: the loop is the one of `proofs/Laws/Comparing.antt`. Assumes nothing.
 use Prim.Native.Nat.{◌-◌}
-use mathlib.Core.Path.{sym, ◌∙◌}
-use borrow.Author.Tests.{not-true, not-false}
 use Rattle.names.specs.Bytes.{before}
-use Rattle.names.proofs.Laws.Comparing.{Comparing, comparing_start, fields_before_on, fields_decided, fields_equal, before_first_short, before_second_short}
+use Rattle.names.proofs.Laws.Comparing.{Comparing}
 use Rattle.names.proofs.fields.field_before.Given as goal
 
 abbrev pub invariant-loop-i : goal.invariant-loop-i

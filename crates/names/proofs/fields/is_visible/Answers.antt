@@ -1,6 +1,5 @@
 -- `names::fields::is_visible` meets its contract: the two tests, one after the other. Assumes nothing.
 use borrow.Author.Tests.{le-leb, lt-leb}
-use borrow.Author.Rules.{rules}
 use Rattle.names.proofs.fields.is_visible.Goals as goal
 
 pub returns-then-b-ge33 : goal.returns-then-b-ge33

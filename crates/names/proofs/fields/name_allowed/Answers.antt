@@ -3,7 +3,6 @@ use mathlib.Core.Path.{sym, ◌∙◌}
 use native.Mathlib.Omega.{arith}
 use lib.ListN.{length-take}
 use Rattle.names.proofs.Laws.Fields.{wrong_length, more_behind, name_decides, nothing_there, hidden_byte, long_name, one_byte, name_within, name_part, padding_part, name_start}
-use borrow.Author.Rules.{rules}
 use Rattle.names.proofs.fields.name_allowed.Goals as goal
 
 pub returns-then-field-ne32 : goal.returns-then-field-ne32

@@ -3,10 +3,9 @@ use mathlib.Core.Path.{sym, ◌∙◌}
 use native.Mathlib.Nat.{add-sub_cancel_left}
 use native.Mathlib.Omega.{arith}
 use Prim.Native.Nat.{◌+◌}
-use borrow.Author.Tests.{leb-true, not-true, not-false}
+use borrow.Author.Tests.{leb-true}
 use lib.ListN.{length}
 use Rattle.names.proofs.Laws.Fields.{no_name_short}
-use borrow.Author.Rules.{rules}
 use Rattle.names.proofs.fields.name_at.Goals as goal
 
 pub returns-then-not-whole_at : goal.returns-then-not-whole_at

@@ -1,7 +1,4 @@
-use Prim.Native.Nat.{◌-◌}
-use lib.ListN.{length}
-use Rattle.names.proofs.Laws.Fields.{Passing, passing_start, passing_stops, passing_on, passing_ends}
-use borrow.Author.Rules.{rules}
+use Rattle.names.proofs.Laws.Fields.{passing_start, passing_stops, passing_on, passing_ends}
 use Rattle.names.proofs.fields.name_length.Goals as goal
 
 pub loop-i-init : goal.loop-i-init

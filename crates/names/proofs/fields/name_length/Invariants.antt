@@ -1,7 +1,7 @@
 -- `names::fields::name_length` meets its contract: the bytes passed and the name in what is left make up the name. Assumes nothing.
 use Prim.Native.Nat.{◌-◌}
 use lib.ListN.{length}
-use Rattle.names.proofs.Laws.Fields.{Passing, passing_start, passing_stops, passing_on, passing_ends}
+use Rattle.names.proofs.Laws.Fields.{Passing}
 use Rattle.names.proofs.fields.name_length.Given as goal
 
 abbrev pub invariant-loop-i : goal.invariant-loop-i

@@ -1,7 +1,6 @@
 -- `names::fields::name_or_absent` meets its contract: each way out has its law. Assumes nothing.
 use mathlib.Core.Path.{sym, ◌∙◌}
 use Rattle.names.proofs.Laws.Fields.{has_name, no_field, absent_or_not}
-use borrow.Author.Rules.{rules}
 use Rattle.names.proofs.fields.name_or_absent.Goals as goal
 
 pub returns-then-name_allowed : goal.returns-then-name_allowed

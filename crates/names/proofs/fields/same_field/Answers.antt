@@ -1,8 +1,6 @@
-use Prim.Native.Nat.{◌-◌}
 use mathlib.Core.Path.{sym, ◌∙◌}
 use Rattle.names.specs.Bytes.{same_bytes}
-use Rattle.names.proofs.Laws.Comparing.{Comparing, comparing_start, fields_same_on, fields_differ, fields_same, same_first_short, same_second_short}
-use borrow.Author.Rules.{rules}
+use Rattle.names.proofs.Laws.Comparing.{comparing_start, fields_same_on, fields_differ, fields_same, same_first_short, same_second_short}
 use Rattle.names.proofs.fields.same_field.Goals as goal
 
 pub returns-then-not-whole_at : goal.returns-then-not-whole_at

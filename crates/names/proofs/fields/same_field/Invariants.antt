@@ -1,9 +1,7 @@
 -- `names::fields::same_field` meets its contract: the loop is the one of `proofs/Laws/Comparing.antt`. Assumes nothing.
 use Prim.Native.Nat.{◌-◌}
-use mathlib.Core.Path.{sym, ◌∙◌}
-use borrow.Author.Tests.{not-true, not-false}
 use Rattle.names.specs.Bytes.{same_bytes}
-use Rattle.names.proofs.Laws.Comparing.{Comparing, comparing_start, fields_same_on, fields_differ, fields_same, same_first_short, same_second_short}
+use Rattle.names.proofs.Laws.Comparing.{Comparing}
 use Rattle.names.proofs.fields.same_field.Given as goal
 
 abbrev pub invariant-loop-i : goal.invariant-loop-i

@@ -1,6 +1,5 @@
 -- `names::fields::whole_at` meets its contract. Assumes nothing.
 use Rattle.names.proofs.Laws.Fields.{whole_none, whole_some}
-use borrow.Author.Rules.{rules}
 use Rattle.names.proofs.fields.whole_at.Goals as goal
 
 pub returns-then-table-lt32 : goal.returns-then-table-lt32

@@ -1,8 +1,5 @@
-use Prim.Native.Nat.{◌-◌}
 use mathlib.Core.Path.{sym}
-use lib.ListN.{length}
-use Rattle.names.proofs.Laws.Patterns.{Matching, matching_start, begins_too_long, begins_goes_on, begins_stops, begins_ends}
-use borrow.Author.Rules.{rules}
+use Rattle.names.proofs.Laws.Patterns.{matching_start, begins_too_long, begins_goes_on, begins_stops, begins_ends}
 use Rattle.names.proofs.markers.begins_with.Goals as goal
 
 pub returns-then-name-pattern : goal.returns-then-name-pattern

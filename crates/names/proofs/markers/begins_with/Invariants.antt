@@ -1,8 +1,7 @@
 -- `names::markers::begins_with` meets its contract: a walk along pattern and name, of which what is left decides. Assumes nothing.
 use Prim.Native.Nat.{◌-◌}
-use mathlib.Core.Path.{sym}
 use lib.ListN.{length}
-use Rattle.names.proofs.Laws.Patterns.{Matching, matching_start, begins_too_long, begins_goes_on, begins_stops, begins_ends}
+use Rattle.names.proofs.Laws.Patterns.{Matching}
 use Rattle.names.proofs.markers.begins_with.Given as goal
 
 abbrev pub invariant-loop-i : goal.invariant-loop-i

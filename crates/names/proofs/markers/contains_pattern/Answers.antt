@@ -1,8 +1,5 @@
-use Prim.Native.Nat.{◌-◌}
 use mathlib.Core.Path.{sym, ◌∙◌}
-use lib.ListN.{length}
-use Rattle.names.proofs.Laws.Patterns.{Looking, looking_start, contains_here, contains_goes_on, contains_ends}
-use borrow.Author.Rules.{rules}
+use Rattle.names.proofs.Laws.Patterns.{looking_start, contains_here, contains_goes_on, contains_ends}
 use Rattle.names.proofs.markers.contains_pattern.Goals as goal
 
 pub loop-at-init : goal.loop-at-init

@@ -1,8 +1,7 @@
 -- `names::markers::contains_pattern` meets its contract: a walk along the name, of which what is left decides. Assumes nothing.
 use Prim.Native.Nat.{◌-◌}
-use mathlib.Core.Path.{sym, ◌∙◌}
 use lib.ListN.{length}
-use Rattle.names.proofs.Laws.Patterns.{Looking, looking_start, contains_here, contains_goes_on, contains_ends}
+use Rattle.names.proofs.Laws.Patterns.{Looking}
 use Rattle.names.proofs.markers.contains_pattern.Given as goal
 
 abbrev pub invariant-loop-at : goal.invariant-loop-at

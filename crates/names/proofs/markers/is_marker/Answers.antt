@@ -4,7 +4,6 @@ use native.Mathlib.Omega.{arith}
 use lib.ListN.{length-take}
 use Rattle.names.specs.Markers.{is_marker}
 use Rattle.names.proofs.Laws.Fields.{name_within, name_taken}
-use borrow.Author.Rules.{rules}
 use Rattle.names.proofs.markers.is_marker.Goals as goal
 
 pub slice_bounds-is_marker_name-end : goal.slice_bounds-is_marker_name-end

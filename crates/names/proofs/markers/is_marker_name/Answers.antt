@@ -1,7 +1,6 @@
 -- `names::markers::is_marker_name` meets its contract: each way out hands `marked` what the tests said so far. Assumes nothing.
 use mathlib.Core.Path.{refl, sym, ◌∙◌}
 use Rattle.names.proofs.Laws.Patterns.{marked}
-use borrow.Author.Rules.{rules}
 use Rattle.names.proofs.markers.is_marker_name.Goals as goal
 
 pub returns-then-begins_with : goal.returns-then-begins_with

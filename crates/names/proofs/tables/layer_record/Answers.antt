@@ -22,8 +22,8 @@ returns-then-numbers-k c =
 pub loop-k-preserved : goal.loop-k-preserved
 loop-k-preserved c =
     λ n e.
-      scan_goes_on (c.loop-k.invariant n e) c.loop-k-test.true
-      (other_bits (get_or c.args.numbers.now c.loop-k.k (pos 0)) n (λ same. c.if-numbers-k.false (same ∙ ap (of_z w16) (sym e ∙ to_z-of_z {w = w16} c.ranges.number))))
+    scan_goes_on (c.loop-k.invariant n e) c.loop-k-test.true
+    (other_bits (get_or c.args.numbers.now c.loop-k.k (pos 0)) n (λ same. c.if-numbers-k.false (same ∙ ap (of_z w16) (sym e ∙ to_z-of_z {w = w16} c.ranges.number))))
 
 pub returns : goal.returns
 unfolding layer_record

@@ -1,11 +1,10 @@
 -- `names::tables::layer_record` meets its contract: the loop is a scan; the machine compares bits, the contract numbers. Assumes nothing.
 use Prim.Native.Nat.{◌-◌}
-use mathlib.Core.Path.{◌≡◌, refl, sym, ◌∙◌}
+use mathlib.Core.Path.{◌≡◌}
 use lib.IntN.{ℤ, pos}
 use lib.ListN.{length, get_or}
-use Rattle.names.specs.Tables.{int_same, layer_record}
-use Rattle.lists.proofs.Laws.Scans.{Scanning, scan_start, scan_stops, scan_goes_on, scan_ends}
-use Rattle.names.proofs.Laws.Tables.{same_bits, other_bits}
+use Rattle.names.specs.Tables.{int_same}
+use Rattle.lists.proofs.Laws.Scans.{Scanning}
 use Rattle.names.proofs.tables.layer_record.Given as goal
 
 abbrev pub invariant-loop-k : goal.invariant-loop-k

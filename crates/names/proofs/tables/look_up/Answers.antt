@@ -1,13 +1,10 @@
-use Prim.Native.Nat.{◌-◌, ◌*◌}
 use mathlib.Core.Path.{sym, ◌∙◌}
 use native.Mathlib.Nat.{div-le_self}
 use native.Mathlib.Omega.{arith}
 use lib.ListN.{length}
-use Rattle.names.specs.Fields.{same_field}
 use Rattle.names.specs.Tables.{look_up}
-use Rattle.lists.proofs.Laws.Scans.{Scanning, scan_start, scan_stops, scan_goes_on, scan_ends}
+use Rattle.lists.proofs.Laws.Scans.{scan_start, scan_stops, scan_goes_on, scan_ends}
 use Rattle.names.proofs.Laws.Tables.{no_records, record_inside}
-use borrow.Author.Rules.{rules}
 use Rattle.names.proofs.tables.look_up.Goals as goal
 
 pub returns-then-width-eq0 : goal.returns-then-width-eq0

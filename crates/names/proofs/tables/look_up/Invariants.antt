@@ -1,13 +1,7 @@
 -- `names::tables::look_up` meets its contract: the loop is a scan over the whole records. Assumes nothing.
 use Prim.Native.Nat.{◌-◌, ◌*◌}
-use mathlib.Core.Path.{sym, ◌∙◌}
-use native.Mathlib.Nat.{div-le_self}
-use native.Mathlib.Omega.{arith}
-use lib.ListN.{length}
 use Rattle.names.specs.Fields.{same_field}
-use Rattle.names.specs.Tables.{look_up}
-use Rattle.lists.proofs.Laws.Scans.{Scanning, scan_start, scan_stops, scan_goes_on, scan_ends}
-use Rattle.names.proofs.Laws.Tables.{no_records, record_inside}
+use Rattle.lists.proofs.Laws.Scans.{Scanning}
 use Rattle.names.proofs.tables.look_up.Given as goal
 
 abbrev pub invariant-loop-k : goal.invariant-loop-k

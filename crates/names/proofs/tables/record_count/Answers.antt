@@ -1,7 +1,6 @@
 -- `names::tables::record_count` meets its contract: where something is left over the quotient is below the size, so one more fits. Assumes nothing.
 use native.Mathlib.Omega.{arith}
 use Rattle.names.proofs.Laws.Tables.{count_none, count_exact, count_over, quotient_below}
-use borrow.Author.Rules.{rules}
 use Rattle.names.proofs.tables.record_count.Goals as goal
 
 pub returns-then-width-eq0 : goal.returns-then-width-eq0

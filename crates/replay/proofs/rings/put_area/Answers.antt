@@ -2,7 +2,6 @@
 use mathlib.Core.Path.{sym}
 use native.Mathlib.Omega.{arith}
 use lib.Seq.{length-take-le}
-use borrow.Author.Rules.{rules}
 use Rattle.replay.proofs.rings.put_area.Goals as goal
 
 pub slice_bounds-rects_area-end-2 : goal.slice_bounds-rects_area-end-2

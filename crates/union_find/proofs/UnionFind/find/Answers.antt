@@ -1,6 +1,5 @@
 -- `find` meets its contract: `look_up` on the parents, and the ranks as they were.
 use Rattle.union_find.proofs.Laws.Ranks.{well_rooted, looked_keeps}
-use borrow.Author.Rules.{rules}
 use Rattle.union_find.proofs.UnionFind.find.Goals as goal
 
 pub look_up-root-requires : goal.look_up-root-requires

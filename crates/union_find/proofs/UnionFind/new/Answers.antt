@@ -2,7 +2,6 @@
 use mathlib.Core.Path.{refl}
 use Rattle.union_find.specs.Table.{fresh}
 use Rattle.union_find.proofs.Laws.Fresh.{fresh_well}
-use borrow.Author.Rules.{rules}
 use Rattle.union_find.proofs.UnionFind.new.Goals as goal
 
 pub returns : goal.returns

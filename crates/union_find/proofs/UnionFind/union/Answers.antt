@@ -6,7 +6,6 @@ use lib.ListN.{get_or}
 use Rattle.union_find.specs.Forest.{max_polygons}
 use Rattle.union_find.specs.Chain.{pairs_of, joins, run, step}
 use Rattle.union_find.proofs.Laws.Joins.{joined_unites}
-use borrow.Author.Rules.{rules}
 use Rattle.union_find.proofs.UnionFind.union.Goals as goal
 
 -- both are polygons

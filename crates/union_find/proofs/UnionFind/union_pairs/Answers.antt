@@ -1,17 +1,14 @@
-use Prim.Native.Nat.{◌≤◌, ◌<◌, ◌-◌, ◌+◌}
-use mathlib.Core.Path.{◌≡◌, refl, sym, ◌∙◌, ap}
+use Prim.Native.Nat.{◌<◌, ◌+◌}
+use mathlib.Core.Path.{refl, sym, ◌∙◌, ap}
 use mathlib.Core.List.{List}
 use native.Mathlib.Omega.{arith}
-use lib.ListN.{length, drop}
 use Rattle.union_find.specs.Forest.{max_polygons}
-use Rattle.union_find.specs.Table.{WellFormed}
-use Rattle.union_find.specs.Chain.{Link, pairs_of, joins, run, step}
+use Rattle.union_find.specs.Chain.{Link, joins, run, step}
 use Rattle.union_find.proofs.Laws.Forest.{root_inside}
 use Rattle.union_find.proofs.Laws.Compression.{compressed_rooted}
 use Rattle.union_find.proofs.Laws.Ranks.{well_rooted}
 use Rattle.union_find.proofs.Laws.Joins.{joined_unites, joined_by_steps}
 use Rattle.union_find.proofs.Laws.Operations.{pairs_more, pairs_done}
-use borrow.Author.Rules.{rules}
 use Rattle.union_find.proofs.UnionFind.union_pairs.Goals as goal
 use Rattle.union_find.proofs.UnionFind.union_pairs.Goals.{After-look_up-a, After-look_up-b}
 

@@ -1,18 +1,10 @@
 -- `union_pairs` meets its contract. Invariant: the table is well formed, and the joins that are left make of it what all of
 -- them make of the first.
-use Prim.Native.Nat.{◌≤◌, ◌<◌, ◌-◌, ◌+◌}
-use mathlib.Core.Path.{◌≡◌, refl, sym, ◌∙◌, ap}
-use mathlib.Core.List.{List}
-use native.Mathlib.Omega.{arith}
+use Prim.Native.Nat.{◌≤◌, ◌-◌}
+use mathlib.Core.Path.{◌≡◌}
 use lib.ListN.{length, drop}
-use Rattle.union_find.specs.Forest.{max_polygons}
 use Rattle.union_find.specs.Table.{WellFormed}
-use Rattle.union_find.specs.Chain.{Link, pairs_of, joins, run, step}
-use Rattle.union_find.proofs.Laws.Forest.{root_inside}
-use Rattle.union_find.proofs.Laws.Compression.{compressed_rooted}
-use Rattle.union_find.proofs.Laws.Ranks.{well_rooted}
-use Rattle.union_find.proofs.Laws.Joins.{joined_unites, joined_by_steps}
-use Rattle.union_find.proofs.Laws.Operations.{pairs_more, pairs_done}
+use Rattle.union_find.specs.Chain.{pairs_of, joins, run}
 use Rattle.union_find.proofs.UnionFind.union_pairs.Given as goal
 
 abbrev pub invariant-loop-i : goal.invariant-loop-i

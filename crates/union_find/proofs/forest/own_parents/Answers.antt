@@ -1,12 +1,10 @@
-use Prim.Native.Nat.{ℕ, ◌≤◌, ◌-◌, zero-le}
+use Prim.Native.Nat.{ℕ, zero-le}
 use mathlib.Core.Path.{◌≡◌, ◌∙◌, ap}
 use native.Mathlib.Omega.{arith}
-use lib.ListN.{replicate, length-replicate}
-use Rattle.lists.specs.Front.{Front}
+use lib.ListN.{length-replicate}
 use Rattle.union_find.specs.Forest.{max_polygons, count_up}
 use Rattle.union_find.proofs.Laws.Forest.{count_up_more}
 use Rattle.lists.proofs.Laws.Front.{front_none, front_length, front_store, front_whole}
-use borrow.Author.Rules.{rules}
 use Rattle.union_find.proofs.forest.own_parents.Goals as goal
 
 pub loop-i-init : goal.loop-i-init

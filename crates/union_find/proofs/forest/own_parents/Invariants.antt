@@ -1,12 +1,8 @@
 -- `own_parents` meets its contract. Invariant: the numbers below i stand in front.
-use Prim.Native.Nat.{ℕ, ◌≤◌, ◌-◌, zero-le}
-use mathlib.Core.Path.{◌≡◌, ◌∙◌, ap}
-use native.Mathlib.Omega.{arith}
-use lib.ListN.{replicate, length-replicate}
+use Prim.Native.Nat.{◌≤◌, ◌-◌}
+use lib.ListN.{replicate}
 use Rattle.lists.specs.Front.{Front}
 use Rattle.union_find.specs.Forest.{max_polygons, count_up}
-use Rattle.union_find.proofs.Laws.Forest.{count_up_more}
-use Rattle.lists.proofs.Laws.Front.{front_none, front_length, front_store, front_whole}
 use Rattle.union_find.proofs.forest.own_parents.Given as goal
 
 abbrev pub invariant-loop-i : goal.invariant-loop-i

@@ -2,7 +2,6 @@
 use native.Mathlib.Omega.{arith}
 use mathlib.Core.Path.{◌∙◌}
 use Rattle.union_find.proofs.Laws.Forest.{parent_read}
-use borrow.Author.Rules.{rules}
 use Rattle.union_find.proofs.forest.parent_of.Goals as goal
 
 pub returns : goal.returns

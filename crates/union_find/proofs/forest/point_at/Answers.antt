@@ -1,9 +1,8 @@
 use mathlib.Core.Logic.{◌≢◌}
 use mathlib.Core.Path.{sym, ◌∙◌}
 use native.Mathlib.Omega.{arith}
-use Rattle.union_find.proofs.Laws.Forest.{root_inside, steps_left}
-use Rattle.union_find.proofs.Laws.Compression.{Pointing, pointing_none, pointing_less, pointing_more, pointing_done}
-use borrow.Author.Rules.{rules}
+use Rattle.union_find.proofs.Laws.Forest.{root_inside}
+use Rattle.union_find.proofs.Laws.Compression.{pointing_none, pointing_less, pointing_more, pointing_done}
 use Rattle.union_find.proofs.forest.point_at.Goals as goal
 use Rattle.union_find.proofs.forest.point_at.Goals.{After-parent_of-next}
 

@@ -1,10 +1,7 @@
 -- `point_at` meets its contract. Invariant: pointing the rest gives `compressed` (`Pointing`). Measure: the parent steps that
 -- are left.
-use mathlib.Core.Logic.{◌≢◌}
-use mathlib.Core.Path.{sym, ◌∙◌}
-use native.Mathlib.Omega.{arith}
-use Rattle.union_find.proofs.Laws.Forest.{root_inside, steps_left}
-use Rattle.union_find.proofs.Laws.Compression.{Pointing, pointing_none, pointing_less, pointing_more, pointing_done}
+use Rattle.union_find.proofs.Laws.Forest.{steps_left}
+use Rattle.union_find.proofs.Laws.Compression.{Pointing}
 use Rattle.union_find.proofs.forest.point_at.Given as goal
 
 abbrev pub invariant-loop-c : goal.invariant-loop-c

@@ -1,8 +1,5 @@
-use Prim.Native.Nat.{◌<◌}
-use mathlib.Core.Path.{◌≡◌, refl, sym, ◌∙◌}
-use Rattle.union_find.specs.Forest.{max_polygons, root_of, Rooted}
-use Rattle.union_find.proofs.Laws.Forest.{root_step, root_at_root, steps_left, steps_less}
-use borrow.Author.Rules.{rules}
+use mathlib.Core.Path.{refl, sym, ◌∙◌}
+use Rattle.union_find.proofs.Laws.Forest.{root_step, root_at_root, steps_less}
 use Rattle.union_find.proofs.forest.root_above.Goals as goal
 
 pub loop-r-init : goal.loop-r-init

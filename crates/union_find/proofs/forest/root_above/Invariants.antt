@@ -1,8 +1,8 @@
 -- `root_above` meets its contract. Invariant: r is a polygon with the root of x. Measure: the parent steps that are left.
 use Prim.Native.Nat.{◌<◌}
-use mathlib.Core.Path.{◌≡◌, refl, sym, ◌∙◌}
+use mathlib.Core.Path.{◌≡◌}
 use Rattle.union_find.specs.Forest.{max_polygons, root_of, Rooted}
-use Rattle.union_find.proofs.Laws.Forest.{root_step, root_at_root, steps_left, steps_less}
+use Rattle.union_find.proofs.Laws.Forest.{steps_left}
 use Rattle.union_find.proofs.forest.root_above.Given as goal
 
 abbrev pub invariant-loop-r : goal.invariant-loop-r

@@ -1,7 +1,6 @@
 -- `number_components` meets its contract: a well-formed table has rooted parents, and the work list is empty.
 use mathlib.Core.Path.{refl}
 use Rattle.union_find.proofs.Laws.Ranks.{well_rooted}
-use borrow.Author.Rules.{rules}
 use Rattle.union_find.proofs.number.number_components.Goals as goal
 
 pub number_roots-requires : goal.number_roots-requires

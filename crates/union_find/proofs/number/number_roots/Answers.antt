@@ -1,4 +1,4 @@
-use Prim.Native.Nat.{◌<◌, ℕ, ◌-◌}
+use Prim.Native.Nat.{◌<◌, ℕ}
 use mathlib.Core.Path.{◌≡◌, sym, ◌∙◌, ap}
 use native.Mathlib.Omega.{arith}
 use lib.ListN.{length, length-replicate}
@@ -7,8 +7,7 @@ use Rattle.union_find.specs.Forest.{max_polygons, root_of}
 use Rattle.union_find.specs.Numbering.{conducts_in}
 use Rattle.union_find.proofs.Laws.Forest.{root_inside}
 use Rattle.union_find.proofs.Laws.NewRoots.{new_below_at_most}
-use Rattle.union_find.proofs.Laws.Numbers.{Numbering, numbering_none, numbering_marks, numbering_knows, numbering_adds}
-use borrow.Author.Rules.{rules}
+use Rattle.union_find.proofs.Laws.Numbers.{numbering_none, numbering_marks, numbering_knows, numbering_adds}
 use Rattle.union_find.proofs.number.number_roots.Goals as goal
 use Rattle.union_find.proofs.number.number_roots.Goals.{After-root_above-root}
 

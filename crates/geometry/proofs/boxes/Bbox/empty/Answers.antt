@@ -2,7 +2,6 @@
 use Rattle.std.proofs.Common.{refl}
 use lib.Ieee.{div, neg, of_bits}
 use Rattle.geometry.specs.Boxes.{empty_box}
-use borrow.Author.Rules.{rules}
 use Rattle.geometry.proofs.boxes.Bbox.empty.Goals as goal
 
 pub returns : goal.returns

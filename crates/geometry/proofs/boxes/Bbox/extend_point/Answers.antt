@@ -1,7 +1,5 @@
 -- `geometry::boxes::Bbox::extend_point` meets its contract. Assumes nothing.
 use Rattle.geometry.specs.Boxes.{extended}
-use Rattle.std.proofs.Common.{rules}
-use borrow.Author.Rules.{rules}
 use Rattle.geometry.proofs.boxes.Bbox.extend_point.Goals as goal
 
 pub returns : goal.returns

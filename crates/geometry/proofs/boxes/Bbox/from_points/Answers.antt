@@ -1,4 +1,4 @@
-use Rattle.std.proofs.Common.{◌≡◌, ◌-◌, ◌≤◌, add-one, arith, rules}
+use Rattle.std.proofs.Common.{◌≡◌, add-one, arith, rules}
 use Rattle.geometry.specs.Ring.{points_in}
 use Rattle.geometry.specs.Boxes.{box_of_first, box_of}
 use borrow.Author.Rules.{rules}

@@ -1,6 +1,5 @@
 -- `geometry::boxes::Bbox::is_empty` meets its contract: the two tests, as `||` has them. Assumes nothing.
 use Rattle.geometry.specs.Boxes.{is_empty}
-use borrow.Author.Rules.{rules}
 use Rattle.geometry.proofs.boxes.Bbox.is_empty.Goals as goal
 
 pub returns-then-self : goal.returns-then-self

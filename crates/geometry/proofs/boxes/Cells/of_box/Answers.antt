@@ -1,8 +1,6 @@
 -- `geometry::boxes::Cells::of_box` meets its contract. Assumes nothing.
-use Rattle.std.proofs.Common.{◌-◌, rules}
 use Rattle.geometry.specs.Cells.{cells_of}
 use Rattle.geometry.proofs.Laws.Signed.{signed}
-use borrow.Author.Rules.{rules}
 use Rattle.geometry.proofs.boxes.Cells.of_box.Goals as goal
 
 pub returns : goal.returns

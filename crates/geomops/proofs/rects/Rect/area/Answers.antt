@@ -1,6 +1,5 @@
 -- `geomops::rects::Rect::area` meets its contract. Assumes nothing.
 use Rattle.geomops.specs.Rects.{area_of}
-use borrow.Author.Rules.{rules}
 use Rattle.geomops.proofs.rects.Rect.area.Goals as goal
 
 pub returns : goal.returns

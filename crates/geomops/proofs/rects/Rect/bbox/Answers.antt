@@ -1,7 +1,6 @@
 -- `geomops::rects::Rect::bbox` meets its contract: the code is the definition. Assumes nothing.
 use mathlib.Core.Path.{refl}
 use Rattle.geomops.specs.Rects.{bbox_of}
-use borrow.Author.Rules.{rules}
 use Rattle.geomops.proofs.rects.Rect.bbox.Goals as goal
 
 pub returns : goal.returns

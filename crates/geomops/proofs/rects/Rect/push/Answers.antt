@@ -5,7 +5,6 @@ use native.Mathlib.Omega.{arith}
 use lib.ListN.{length-set}
 use Rattle.geomops.specs.Rects.{numbers_of}
 use Rattle.geomops.proofs.Laws.Pushing.{pushed_over, pushed_full, pushed_one}
-use borrow.Author.Rules.{rules}
 use Rattle.geomops.proofs.rects.Rect.push.Goals as goal
 
 pub returns-then-room-place : goal.returns-then-room-place

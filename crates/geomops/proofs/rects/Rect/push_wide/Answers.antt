@@ -1,6 +1,5 @@
 -- `geomops::rects::Rect::push_wide` meets its contract, by that of `push`. Assumes nothing.
 use Rattle.geomops.proofs.Laws.Pushing.{pushed_none, wide_one, wide_none}
-use borrow.Author.Rules.{rules}
 use Rattle.geomops.proofs.rects.Rect.push_wide.Goals as goal
 
 pub returns-then-self : goal.returns-then-self

@@ -4,7 +4,6 @@ use native.Mathlib.Omega.{arith}
 use lib.ListN.{length-set}
 use lib.Seq.{sets-eq}
 use Rattle.geomops.specs.Rects.{ring_of}
-use borrow.Author.Rules.{rules}
 use Rattle.geomops.proofs.rects.Rect.to_ring.Goals as goal
 
 pub bounds-ring-1 : goal.bounds-ring-1
