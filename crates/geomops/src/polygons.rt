@@ -22,8 +22,8 @@ pub fn polygon_minus_polygon(
     xb: &mut [f64],
     out: &mut [f64],
 ) -> Pieces
-    requires a_in_bounds { (points_in a.now ≤ length xa.old) × (points_in b.now ≤ length xb.old) }
-    requires b_in_bounds { (points_in a.now + points_in b.now ≤ length hs.old) × (points_in a.now + points_in b.now ≤ length ys.old) }
+    requires interval_room { (points_in a.now ≤ length xa.old) × (points_in b.now ≤ length xb.old) }
+    requires height_room { (points_in a.now + points_in b.now ≤ length hs.old) × (points_in a.now + points_in b.now ≤ length ys.old) }
     ensures { Pieced (minus_rects a.now b.now) out.old out.new result }
 {
     let n = ring_bands(a, b, hs, ys);
@@ -40,8 +40,8 @@ pub fn polygon_intersection_rects(
     xb: &mut [f64],
     out: &mut [f64],
 ) -> Pieces
-    requires a_in_bounds { (points_in a.now ≤ length xa.old) × (points_in b.now ≤ length xb.old) }
-    requires b_in_bounds { (points_in a.now + points_in b.now ≤ length hs.old) × (points_in a.now + points_in b.now ≤ length ys.old) }
+    requires interval_room { (points_in a.now ≤ length xa.old) × (points_in b.now ≤ length xb.old) }
+    requires height_room { (points_in a.now + points_in b.now ≤ length hs.old) × (points_in a.now + points_in b.now ≤ length ys.old) }
     ensures { Pieced (intersection_rects a.now b.now) out.old out.new result }
 {
     let n = ring_bands(a, b, hs, ys);

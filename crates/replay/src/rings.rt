@@ -82,8 +82,8 @@ fn put_minus(
     rects: &mut [f64],
     out: &mut [u8],
 ) -> usize
-    requires a_in_bounds { (points_in a.now ≤ length xa.old) × (points_in b.now ≤ length xb.old) }
-    requires b_in_bounds { (points_in a.now + points_in b.now ≤ length hs.old) × (points_in a.now + points_in b.now ≤ length ys.old) }
+    requires interval_room { (points_in a.now ≤ length xa.old) × (points_in b.now ≤ length xb.old) }
+    requires height_room { (points_in a.now + points_in b.now ≤ length hs.old) × (points_in a.now + points_in b.now ≤ length ys.old) }
 {
     let made = polygon_minus_polygon(a, b, hs, ys, xa, xb, rects);
     put_pieces(made, rects, out)
@@ -100,8 +100,8 @@ fn put_meet(
     rects: &mut [f64],
     out: &mut [u8],
 ) -> usize
-    requires a_in_bounds { (points_in a.now ≤ length xa.old) × (points_in b.now ≤ length xb.old) }
-    requires b_in_bounds { (points_in a.now + points_in b.now ≤ length hs.old) × (points_in a.now + points_in b.now ≤ length ys.old) }
+    requires interval_room { (points_in a.now ≤ length xa.old) × (points_in b.now ≤ length xb.old) }
+    requires height_room { (points_in a.now + points_in b.now ≤ length hs.old) × (points_in a.now + points_in b.now ≤ length ys.old) }
 {
     let made = polygon_intersection_rects(a, b, hs, ys, xa, xb, rects);
     put_pieces(made, rects, out)

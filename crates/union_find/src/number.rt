@@ -19,7 +19,7 @@ fn number_roots(
 ) -> usize
     requires rooted { Rooted parent.now × (n ≤ max_polygons) }
     requires n_in_bounds { (n ≤ length conducts.now) × (n ≤ length components.old) }
-    requires numbers_value { numbers.old ≡ replicate max_polygons empty_number }
+    requires numbers_empty { numbers.old ≡ replicate max_polygons empty_number }
     ensures { Components parent.now conducts.now n components.old components.new result }
 {
     let mut next = 0;

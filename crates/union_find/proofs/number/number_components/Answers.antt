@@ -9,5 +9,5 @@ number_roots-requires c =
     record {
       rooted = (well_rooted _ pre.well_formed.0, pre.well_formed.1);
       n_in_bounds = pre.n_in_bounds;
-      numbers_value = refl;
+      numbers_empty = refl;
     }

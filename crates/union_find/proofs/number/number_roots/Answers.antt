@@ -18,7 +18,7 @@ root_small c =
     (root_inside _ c.requires.rooted.0 _ (omega arith))
 
 pub loop-i-init : goal.loop-i-init
-loop-i-init c = numbering_none _ _ _ _ _ c.requires.numbers_value
+loop-i-init c = numbering_none _ _ _ _ _ c.requires.numbers_empty
 
 pub root_above-root-requires : goal.root_above-root-requires
 root_above-root-requires c = (c.requires.rooted.0, omega arith)
@@ -68,7 +68,7 @@ shape_of-components c = c.loop-i.invariant.size
 
 pub shape_of-numbers : goal.shape_of-numbers
 shape_of-numbers c =
-    let empty = c.requires.numbers_value in
+    let empty = c.requires.numbers_empty in
     c.loop-i.invariant.slots ∙ sym (ap length empty ∙ length-replicate {A = ℕ} max_polygons empty_number)
 
 pub returns : goal.returns
