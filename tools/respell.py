@@ -4,7 +4,7 @@
 usage: python3 tools/respell.py        at the top of the repository
 
 A definition, lemma or field is in snake case. A name with a dash changes in the files that declare it or import it from a crate of the
-repository, and a field or a name with a capital inside in every file. Types, modules, functions of src/, strings and numbers keep
+repository, and a field or any word with a capital inside in every file. Types, modules, functions of src/, strings and numbers keep
 theirs. It stops, with nothing written, where two names would fall together. A second run changes nothing.
 """
 
@@ -13,8 +13,8 @@ import os
 import re
 import sys
 
-# Names that would read as a tactic of antt's, or fall together with another: what they are called instead.
-OTHERWISE = {"first_of": "first_from", "firstOf": "first_from", "sameInt": "int_same", "layer-record": "layer_record_lem"}
+# Names that would read as a tactic of antt's, fall together with another, or are the library's: what they are called instead.
+OTHERWISE = {"first_of": "first_from", "firstOf": "first_from", "sameInt": "int_same", "layer-record": "layer_record_lem", "getD": "get_or"}
 WORD = r"[^\s(){}\[\].,;:«»`'\"|@]+"
 DECLARED = re.compile(rf"^ *(?:(?:abbrev|unfoldable|pub) +)*({WORD})(?: [^\n]*?)? : ", re.M)
 IMPORTED = re.compile(r"Rattle\.(\w+)\.(?:specs|proofs)[^\s;{}]*\.\{([^}]*)\}")
@@ -63,18 +63,17 @@ def main():
     logic = sorted(glob.glob("crates/*/specs/**/*.antt", recursive=True) + glob.glob("crates/*/proofs/**/*.antt", recursive=True))
     texts = {p: read(p) for p in logic}
     walked = {p for p in logic if is_walked(p)}
-    own = set().union(*(declared(t) for p, t in texts.items() if p not in walked))
-    renamed = {n: respelt(n) for n in own}
-    renamed = {n: m for n, m in renamed.items() if n != m}
-
-    everywhere = {n for n in renamed if is_mixed(n)} | set(renamed) & set().union(*(fields(t) for p, t in texts.items() if p not in walked))
-
     sources = sorted(glob.glob("crates/*/src/**/*.rt", recursive=True))
     edits = sorted(glob.glob("crates/*/must-fail/*.edit"))
+    own = set().union(*(declared(t) for p, t in texts.items() if p not in walked))
+    mixed = {w for p in logic + edits for w in re.findall(WORD, texts.get(p) or read(p)) if is_mixed(w)}
+    renamed = {n: respelt(n) for n in own | mixed}
+    renamed = {n: m for n, m in renamed.items() if n != m}
+    everywhere = mixed | set(renamed) & set().union(*(fields(t) for p, t in texts.items() if p not in walked))
     after, wrong = {}, []
     for path in logic + sources + edits:
         text = texts.get(path) or read(path)
-        known = set(everywhere)
+        known = everywhere & set(renamed)
         if path not in edits:
             known |= set(renamed) & (declared(text) if path in texts and path not in walked else set())
             for crate, names in IMPORTED.findall(text):
@@ -82,7 +81,7 @@ def main():
                     known |= set(renamed) & {w.strip().split(" as ")[0] for w in names.split(",")}
         # a word behind a dot is a field, and one before it a step of a path
         words = set(re.findall(rf"(?<![.\w])({WORD})(?!\.)", re.sub(r"--[^\n]*", "", text)))
-        for n in known:
+        for n in known & words:
             if renamed[n] in words and renamed[n] not in known and path not in edits and path not in sources:
                 wrong.append(f"{path}: {n} would become {renamed[n]}, which stands there already")
         for m in {renamed[n] for n in known}:

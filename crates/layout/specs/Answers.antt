@@ -56,12 +56,12 @@ bad_coordinates points port_points = counted (length points) (bad_coordinate poi
 
 -- answer 5 of the extraction: layers, conducting, via, stack, ports
 unfoldable pub bad_record : List ℤ → List ℕ → List ℕ → List ℕ → List ℕ → List ℕ → ℕ → Scan
-bad_record layer_numbers layer_names conducting via stack port_names portCoordinates =
+bad_record layer_numbers layer_names conducting via stack port_names port_coordinates =
     counted (layer_count (length layer_numbers) (length layer_names)) (bad_layer layer_numbers layer_names)
     (counted (record_count (length conducting) 64) (bad_pair conducting)
     (counted (record_count (length via) 64) (bad_pair via)
     (counted (record_count (length stack) 96) (bad_stack stack)
-    (bad_port port_names portCoordinates))))
+    (bad_port port_names port_coordinates))))
 
 -- answer 5 of the cut and the channel regions: layers, then the gate's name, then the active's
 unfoldable pub bad_mark : List ℤ → List ℕ → List ℕ → List ℕ → Scan

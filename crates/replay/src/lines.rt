@@ -1,31 +1,32 @@
 // Lines in a buffer that is filled up from standard input.
-ghost use Rattle.std.specs.Prelude.{◌+◌, ◌≤◌, ◌<◌, length, IfOk};
+ghost use Rattle.std.specs.Prelude.{◌+◌, ◌≤◌, ◌<◌, length};
 
 use crate::answers::answer;
-use std::io::{self, Read, Write};
+use std::io::{Read, Write};
 
-// Reads until a buffer is full or the input is at its end; how many bytes there are.
-fn read_full<R: Read>(source: &mut R, buffer: &mut [u8]) -> io::Result<usize>
-    ensures { IfOk result (λ n. n ≤ length buffer.new) }
+// Reads until a buffer is full or the input gives no more, at its end or by a failed read; how many bytes there are.
+fn read_full<R: Read>(source: &mut R, buffer: &mut [u8]) -> usize
+    ensures { result ≤ length buffer.new }
 {
     let mut done = 0;
     while done < buffer.len() {
-        let n = source.read(&mut buffer[done..])?;
+        let Ok(n) = source.read(&mut buffer[done..]) else {
+            return done;
+        };
         if n == 0 {
-            return Ok(done);
+            return done;
         }
         done += n;
     }
-    Ok(done)
+    done
 }
 
 // Reads more bytes behind the first `have`; how many there are then.
-fn read_behind<R: Read>(source: &mut R, text: &mut [u8], have: usize) -> io::Result<usize>
+fn read_behind<R: Read>(source: &mut R, text: &mut [u8], have: usize) -> usize
     requires { have ≤ length text.old }
-    ensures { IfOk result (λ n. n ≤ length text.new) }
+    ensures { result ≤ length text.new }
 {
-    let more = read_full(source, &mut text[have..])?;
-    Ok(have + more)
+    have + read_full(source, &mut text[have..])
 }
 
 // How many of the first `have` bytes are whole lines, with their line feeds.
@@ -72,29 +73,22 @@ fn line_end(text: &[u8], at: usize) -> usize
     i
 }
 
-// Writes the first n bytes, if there are so many.
-fn write_front<W: Write>(sink: &mut W, text: &[u8], n: usize) -> io::Result<()> {
+// Writes the first n bytes, if there are so many. A failed write is passed over.
+fn write_front<W: Write>(sink: &mut W, text: &[u8], n: usize) {
     if n <= text.len() {
-        sink.write_all(&text[..n])?;
+        let _ = sink.write_all(&text[..n]);
     }
-    Ok(())
 }
 
 // Answers the lines of a text, one after the other.
-fn answer_lines<W: Write>(
-    sink: &mut W,
-    text: &[u8],
-    rings: &mut [f64],
-    output: &mut [u8],
-) -> io::Result<()> {
+fn answer_lines<W: Write>(sink: &mut W, text: &[u8], rings: &mut [f64], output: &mut [u8]) {
     let mut at = 0;
     while at < text.len() {
         let end = line_end(text, at);
         let n = answer(&text[at..end], rings, output);
-        write_front(sink, output, n)?;
+        write_front(sink, output, n);
         at = end + 1;
     }
-    Ok(())
 }
 
 // How often the input is filled up, at most.
@@ -107,18 +101,17 @@ pub fn answer_all<R: Read, W: Write>(
     input: &mut [u8],
     rings: &mut [f64],
     output: &mut [u8],
-) -> io::Result<()> {
+) {
     let mut have = 0;
     let mut fill: usize = 0;
     while fill < FILLS {
         fill += 1;
-        have = read_behind(source, input, have)?;
+        have = read_behind(source, input, have);
         let whole = whole_lines(input, have);
         if whole == 0 {
-            return Ok(());
+            return;
         }
-        answer_lines(sink, &input[..whole], rings, output)?;
+        answer_lines(sink, &input[..whole], rings, output);
         have = move_down(input, whole, have);
     }
-    Ok(())
 }

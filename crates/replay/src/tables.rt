@@ -8,7 +8,7 @@ use jobs::writing::{put_byte, put_number};
 use union_find::{MAX_POLYGONS, UnionFind};
 
 // A table on its way through the operations of a job, with the next word's place and the answer's length.
-#[derive(Drop)]
+#[derive(Clone, Copy)]
 struct Run {
     table: UnionFind,
     next: usize,

@@ -16,14 +16,14 @@ pub use number::number_components;
 pub const MAX_POLYGONS: usize = 512;
 
 // parent: one step up; a root is its own parent. rank: 9 at most, and less than the parent's.
-#[derive(Drop)]
+#[derive(Clone, Copy)]
 pub struct UnionFind {
     pub parent: [u16; MAX_POLYGONS],
     pub rank: [u8; MAX_POLYGONS],
 }
 
 // What a lookup hands back: the table with the way shortened, and the root.
-#[derive(Drop)]
+#[derive(Clone, Copy)]
 pub struct Found {
     pub table: UnionFind,
     pub root: usize,

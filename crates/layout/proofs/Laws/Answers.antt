@@ -63,13 +63,13 @@ pub coordinates_judged : (points port_points : List Float) {a b : Scan} → bad_
 unfolding bad_coordinates
 coordinates_judged points port_points e₁ e₂ = rw (e₁, e₂)
 
-pub records_judged : (layer_numbers : List ℤ) (layer_names conducting via stack port_names : List ℕ) (portCoordinates : ℕ) {a b c d e : Scan}
-    → bad_layer layer_numbers layer_names ≡ a → bad_pair conducting ≡ b → bad_pair via ≡ c → bad_stack stack ≡ d → bad_port port_names portCoordinates ≡ e
-    → bad_record layer_numbers layer_names conducting via stack port_names portCoordinates ≡
+pub records_judged : (layer_numbers : List ℤ) (layer_names conducting via stack port_names : List ℕ) (port_coordinates : ℕ) {a b c d e : Scan}
+    → bad_layer layer_numbers layer_names ≡ a → bad_pair conducting ≡ b → bad_pair via ≡ c → bad_stack stack ≡ d → bad_port port_names port_coordinates ≡ e
+    → bad_record layer_numbers layer_names conducting via stack port_names port_coordinates ≡
     counted (layer_count (length layer_numbers) (length layer_names)) a (counted (record_count (length conducting) 64) b
     (counted (record_count (length via) 64) c (counted (record_count (length stack) 96) d e)))
 unfolding bad_record
-records_judged layer_numbers layer_names conducting via stack port_names portCoordinates e₁ e₂ e₃ e₄ e₅ = rw (e₁, e₂, e₃, e₄, e₅)
+records_judged layer_numbers layer_names conducting via stack port_names port_coordinates e₁ e₂ e₃ e₄ e₅ = rw (e₁, e₂, e₃, e₄, e₅)
 
 pub marks_judged : (layer_numbers : List ℤ) (layer_names gate active : List ℕ) {a : Scan} {g h : Bool}
     → bad_layer layer_numbers layer_names ≡ a → name_allowed gate ≡ g → name_allowed active ≡ h
