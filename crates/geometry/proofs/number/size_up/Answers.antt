@@ -2,7 +2,6 @@
 use Rattle.std.proofs.Common.{◌^◌, ◌<◌, ◌≤◌, sym, ◌∙◌, add-one, arith, le→leb, rules}
 use lib.Ieee.{in_float, to_unsigned}
 use Rattle.geometry.proofs.Laws.Floor.{can_cut, cut_small, size_by_test, size_whole}
-use borrow.Author.Rules.{rules}
 use Rattle.geometry.proofs.number.size_up.Goals as goal
 
 pub truncating_f64_to_u64-whole-requires : goal.truncating_f64_to_u64-whole-requires

@@ -1,7 +1,6 @@
 use Rattle.std.proofs.Common.{◌≡◌, add-one, arith, rules}
 use Rattle.geometry.specs.Ring.{points_in}
 use Rattle.geometry.specs.Boxes.{box_of_first, box_of}
-use borrow.Author.Rules.{rules}
 use Rattle.geometry.proofs.boxes.Bbox.from_points.Goals as goal
 
 pub loop-i-init : goal.loop-i-init
