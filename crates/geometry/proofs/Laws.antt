@@ -1,7 +1,6 @@
 -- The laws of `geometry`, by subject.
 pub mod Floor
 pub mod Size
-pub mod Signed
 pub mod Area
 pub mod Boxes
 pub mod Coordinates

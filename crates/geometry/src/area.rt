@@ -23,12 +23,10 @@ pub fn polygon_signed_area(ring: &[f64]) -> f64
     let first = point_at(ring, 0);
     let mut here = first;
     let mut sum = 0.0;
-    let mut i = 0;
-    while i + 1 < n {
-        let next = point_at(ring, i + 1);
-        sum = sum + cross(here, next);
+    for i in 1..n {
+        let next = point_at(ring, i);
+        sum += cross(here, next);
         here = next;
-        i += 1;
     }
     (sum + cross(here, first)) / 2.0
 }

@@ -7,7 +7,7 @@ use crate::number::{floor, maximum, minimum};
 use crate::ring::{Point, point_at};
 
 // The least box around some points.
-#[derive(Clone, Copy)]
+#[derive(Clone, Copy, Debug, PartialEq)]
 pub struct Bbox {
     pub min_x: f64,
     pub min_y: f64,
@@ -23,13 +23,11 @@ impl Bbox {
     pub fn empty() -> Self
         ensures { result ≡ empty_box }
     {
-        let high = 1.0 / 0.0;
-        let low = -1.0 / 0.0;
         Self {
-            min_x: high,
-            min_y: high,
-            max_x: low,
-            max_y: low,
+            min_x: f64::INFINITY,
+            min_y: f64::INFINITY,
+            max_x: f64::NEG_INFINITY,
+            max_y: f64::NEG_INFINITY,
         }
     }
 
@@ -58,10 +56,8 @@ impl Bbox {
     {
         let n = ring.len() / 2;
         let mut bounds = Bbox::empty();
-        let mut i = 0;
-        while i < n {
+        for i in 0..n {
             bounds = bounds.extend_point(point_at(ring, i));
-            i += 1;
         }
         bounds
     }
@@ -75,7 +71,7 @@ pub fn cell(x: f64) -> i64
 }
 
 // The cells that a box reaches: from x0 to x1 and from y0 to y1, the ends included.
-#[derive(Clone, Copy)]
+#[derive(Clone, Copy, Debug, PartialEq, Eq)]
 pub struct Cells {
     pub x0: i64,
     pub y0: i64,

@@ -1,19 +1,17 @@
 // Small functions on numbers, as f64's own are on numbers that are no NaN.
-ghost use Rattle.std.specs.Prelude.{◌≡◌, ◌^◌, ◌<◌, false, T, pos};
-ghost use Rattle.std.specs.Float.Ieee as Ieee;
-ghost use Rattle.std.specs.Float.{fin};
-ghost use Rattle.geometry.specs.Number.{lesser, greater, size_of, size_up, floor_of};
+ghost use Rattle.std.specs.Prelude.{◌≡◌};
+ghost use Rattle.geometry.specs.Number.{lesser, greater, size_of, floor_of};
 
-use std::num::{truncating_f64_to_i64, truncating_f64_to_u64};
+use std::num::saturating_f64_to_i64;
 
-// The lesser of two numbers; the first where neither is.
+// The lesser of two numbers; the first where neither is. f64's `min` leaves open which of two zeros comes back, and passes over a NaN.
 pub fn minimum(a: f64, b: f64) -> f64
     ensures { result ≡ lesser a b }
 {
     if b < a { b } else { a }
 }
 
-// The greater of two numbers; the first where neither is.
+// The greater of two numbers; the first where neither is. The same of f64's `max`.
 pub fn maximum(a: f64, b: f64) -> f64
     ensures { result ≡ greater a b }
 {
@@ -24,44 +22,12 @@ pub fn maximum(a: f64, b: f64) -> f64
 pub fn size(x: f64) -> f64
     ensures { result ≡ size_of x }
 {
-    if x < 0.0 {
-        return -x;
-    }
-    if x == 0.0 {
-        return 0.0;
-    }
-    x
-}
-
-// A positive number below 2^63, rounded up. From 2^53 on every f64 is whole.
-fn size_up(a: f64) -> u64
-    requires { T (Ieee.lt (fin false 0 (pos 0)) a) × T (Ieee.lt a (fin false 1 (pos 63))) }
-    ensures { (result ≡ size_up a) × (result < 2 ^ 63) }
-{
-    let whole = truncating_f64_to_u64(a);
-    if whole < 9007199254740992 {
-        if (whole as f64) < a {
-            return whole + 1;
-        }
-    }
-    whole
+    x.abs()
 }
 
 // The greatest whole number that is not above x; 0 for a NaN, and the nearest end of the range where it is out of it.
 pub fn floor(x: f64) -> i64
     ensures { result ≡ floor_of x }
 {
-    if x >= 9223372036854775808.0 {
-        return i64::MAX;
-    }
-    if x > 0.0 {
-        return truncating_f64_to_i64(x);
-    }
-    if x <= -9223372036854775808.0 {
-        return i64::MIN;
-    }
-    if x < 0.0 {
-        return 0 - (size_up(-x) as i64);
-    }
-    0
+    saturating_f64_to_i64(x.floor())
 }

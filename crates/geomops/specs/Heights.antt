@@ -1,13 +1,12 @@
 -- The heights at which two rings are cut into bands, and the lines between them ("Rings and the touch test", line 3).
-use Rattle.std.specs.Prelude.{◌≡◌, ℕ, ◌+◌, ◌≤◌, Bool, true, false, List, [], ◌∷◌, ◌++◌, length, drop, Float}
+use Rattle.std.specs.Prelude.{ℕ, Bool, true, false, List, [], ◌∷◌, ◌++◌, Float}
 use Rattle.std.specs.Float.{binary64}
 use Rattle.std.specs.Float.Ieee.{of_bits, add, sub, mul, lt}
 use Rattle.lists.specs.Gathered.{tabulate}
 use Rattle.geometry.specs.Number.{resolution, size_of}
 use Rattle.geometry.specs.Ring.{points_in, point_at}
 use Rattle.geomops.specs.Crossings.{Interval}
-use Rattle.geomops.specs.Sorted.{sorted, merged}
-use Rattle.geomops.specs.declared.heights.Step.{Step}
+use Rattle.geomops.specs.Sorted.{sorted}
 
 -- the height of point i
 abbrev pub height_at : List Float → ℕ → Float
@@ -48,10 +47,3 @@ half = of_bits binary64 0x3fe0_0000_0000_0000
 -- the test line between two neighbours: 0.5 * (lower + upper)
 unfoldable pub line_between : Float → Float → Float
 line_between lower upper = mul binary64 half (add binary64 lower upper)
-
--- the first number of two lists merged, of which the first i and the first j are used up, and what is used up with it
-pub record Next (p : List Float) (i : ℕ) (q : List Float) (j : ℕ) (s : Step) : Type 0 where
-  pub low : s.i ≤ length p
-  pub high : s.j ≤ length q
-  pub more : s.i + s.j ≡ i + j + 1
-  pub first : merged (drop i p) (drop j q) ≡ s.height ∷ merged (drop s.i p) (drop s.j q)

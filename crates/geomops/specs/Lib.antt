@@ -5,4 +5,5 @@ pub mod Crossings
 pub mod Heights
 pub mod Rects
 pub mod Pieces
+pub mod Work
 pub mod Rounding

@@ -1,13 +1,12 @@
 -- Rectangles: their area, ring and box, and lists of them, four numbers each.
-use Rattle.std.specs.Prelude.{◌≡◌, ℕ, zero, suc, ◌+◌, ◌*◌, ◌-◌, ◌/◌, min, max, cond, List, [], ◌∷◌, ◌++◌, leb, length, get_or, take, drop, Float}
+use Rattle.std.specs.Prelude.{◌≡◌, ℕ, zero, suc, ◌+◌, ◌*◌, ◌-◌, ◌/◌, cond, List, [], ◌∷◌, ◌++◌, Result, Ok, Err, leb, length, get_or, take, drop, Float}
 use Rattle.std.proofs.lemmas.List.Edits.{sets}
 use Rattle.std.specs.Float.{nan, binary64}
 use Rattle.std.specs.Float.Ieee.{add, sub, mul, lt}
 use Rattle.geometry.specs.Number.{nought, resolution, greater}
 use Rattle.geometry.specs.declared.boxes.Bbox.{Bbox}
 use Rattle.geomops.specs.declared.rects.Rect.{Rect}
-use Rattle.geomops.specs.declared.rects.Pieces.{Pieces}
-use Rattle.geomops.specs.declared.rects.Pieces.TheVariants.{Made, NoRoom}
+use Rattle.geomops.specs.declared.rects.NoRoom.{NoRoom}
 
 -- width times height, each 0 where it is not above 0
 unfoldable pub area_of : Rect → Float
@@ -49,20 +48,24 @@ numbers_of (r ∷ rs) = r.x0 ∷ r.y0 ∷ r.x1 ∷ r.y1 ∷ numbers_of rs
 unfoldable pub wide : Rect → List Rect
 wide r = cond (lt resolution (sub binary64 r.x1 r.x0)) (r ∷ []) []
 
--- `after` is `before` with rs from place p on, as far as there is room, and q is the next place; one past the room says that not all found room
-pub record Pushed (rs : List Rect) (before after : List Float) (p q : ℕ) : Type 0 where
-  pub place : q ≡ max p (min (p + length rs) (room_in before + 1))
+-- the place behind rs, which begin at place p, or that there is no room for all
+unfoldable pub place_behind : ℕ → ℕ → List Rect → Result ℕ NoRoom
+place_behind room p rs = cond (leb (length rs) (room - p)) (Ok (p + length rs)) (Err (record {}))
+
+-- `after` is `before` with rs from place p on, as far as there is room, and r is the place behind them
+pub record Pushed (rs : List Rect) (before after : List Float) (p : ℕ) (r : Result ℕ NoRoom) : Type 0 where
+  pub place : r ≡ place_behind (room_in before) p rs
   pub list : after ≡ sets before (4 * p) (numbers_of (take (room_in before - p) rs))
 
 -- how many rs are, or that there are more than there is room for
-unfoldable pub answer_of : ℕ → List Rect → Pieces
-answer_of room rs = cond (leb (length rs) room) (Made (length rs)) NoRoom
+unfoldable pub answer_of : ℕ → List Rect → Result ℕ NoRoom
+answer_of room rs = cond (leb (length rs) room) (Ok (length rs)) (Err (record {}))
 
 -- rs in front of the list, as many as there is room for; nothing changes behind them
 unfoldable pub rects_front : List Rect → List Float → List Float
 rects_front rs l = let held = take (room_in l) rs in numbers_of held ++ drop (4 * length held) l
 
 -- the answer, and the list that came in as `before`
-pub record Pieced (rs : List Rect) (before after : List Float) (r : Pieces) : Type 0 where
+pub record Pieced (rs : List Rect) (before after : List Float) (r : Result ℕ NoRoom) : Type 0 where
   pub answer : r ≡ answer_of (room_in before) rs
   pub list : after ≡ rects_front rs before

@@ -1,5 +1,5 @@
 // One edge of a ring, at one height.
-ghost use Rattle.std.specs.Prelude.{◌≡◌, ◌&&◌};
+ghost use Rattle.std.specs.Prelude.{◌≡◌};
 ghost use Rattle.geomops.specs.Edge.{crossing_at, side_of, counted_sides};
 
 use geometry::Point;
@@ -11,8 +11,8 @@ pub fn crossing(a: Point, b: Point, y: f64) -> f64
     a.x + (y - a.y) / (b.y - a.y) * (b.x - a.x)
 }
 
-// On which side of a line a point is: at or below it, or strictly above. A NaN is on neither.
-#[derive(Clone, Copy)]
+// On which side of a line a point is: at or below it, or strictly above. A NaN is on neither. Two flags, since `counted` takes every pair of them.
+#[derive(Clone, Copy, Debug, PartialEq, Eq)]
 pub struct Side {
     pub low: bool,
     pub high: bool,
@@ -34,15 +34,9 @@ pub fn side_at(h: f64, y: f64) -> Side
     }
 }
 
-fn both(a: bool, b: bool) -> bool
-    ensures { result ≡ a && b }
-{
-    a && b
-}
-
 // Whether an edge counts: one end at or below the line, the other strictly above.
 pub fn counted(a: Side, b: Side) -> bool
     ensures { result ≡ counted_sides a b }
 {
-    both(a.low, b.high) || both(b.low, a.high)
+    a.low && b.high || b.low && a.high
 }

@@ -5,7 +5,7 @@ ghost use Rattle.geomops.specs.Crossings.{paired};
 ghost use Rattle.geomops.specs.Rects.{Pushed};
 ghost use Rattle.geomops.specs.Pieces.{shared_part, pieces_of};
 
-use crate::rects::Rect;
+use crate::rects::{NoRoom, Rect};
 use geometry::{maximum, minimum};
 
 // The part of r that lies between b0 and b1.
@@ -21,16 +21,12 @@ fn shared_part(r: Rect, b0: f64, b1: f64) -> Rect
 }
 
 // Writes the parts of r that the intervals of bs share with it, left to right; the next place.
-pub fn push_shared(r: Rect, bs: &[f64], out: &mut [f64], place: usize) -> usize
+pub fn push_shared(r: Rect, bs: &[f64], out: &mut [f64], place: usize) -> Result<usize, NoRoom>
     ensures { Pushed (pieces_of Intersection (paired bs.now) r) out.old out.new place result }
 {
-    let n = bs.len() / 2;
     let mut next = place;
-    let mut k = 0;
-    while k < n {
-        let part = shared_part(r, bs[2 * k], bs[2 * k + 1]);
-        next = part.push_wide(out, next);
-        k += 1;
+    for &[b0, b1] in bs.as_chunks::<2>().0 {
+        next = shared_part(r, b0, b1).push_wide(out, next)?;
     }
-    next
+    Ok(next)
 }

@@ -5,7 +5,7 @@ ghost use Rattle.geomops.specs.Crossings.{paired};
 ghost use Rattle.geomops.specs.Rects.{Pushed};
 ghost use Rattle.geomops.specs.Pieces.{is_apart, pieces_of};
 
-use crate::rects::Rect;
+use crate::rects::{NoRoom, Rect};
 
 // Whether the interval from b0 to b1 lies beside r.
 fn apart(b0: f64, b1: f64, r: Rect) -> bool
@@ -16,15 +16,12 @@ fn apart(b0: f64, b1: f64, r: Rect) -> bool
 
 // Writes what the intervals of bs leave of r; the next place. The side below an interval comes before the side above it, each
 // less the intervals behind: the order in which the intervals are taken away in turn.
-pub fn push_left(r: Rect, bs: &[f64], out: &mut [f64], place: usize) -> usize
+pub fn push_left(r: Rect, bs: &[f64], out: &mut [f64], place: usize) -> Result<usize, NoRoom>
     ensures { Pushed (pieces_of Minus (paired bs.now) r) out.old out.new place result }
 {
-    if bs.len() < 2 {
+    let &[b0, b1, ref rest @ ..] = bs else {
         return r.push_wide(out, place);
-    }
-    let b0 = bs[0];
-    let b1 = bs[1];
-    let rest = &bs[2..];
+    };
     if apart(b0, b1, r) {
         return push_left(r, rest, out, place);
     }
@@ -41,14 +38,14 @@ pub fn push_left(r: Rect, bs: &[f64], out: &mut [f64], place: usize) -> usize
         y1: r.y1,
     };
     if b0 > r.x0 {
-        let next = push_left(below, rest, out, place);
+        let next = push_left(below, rest, out, place)?;
         if b1 < r.x1 {
             return push_left(above, rest, out, next);
         }
-        return next;
+        return Ok(next);
     }
     if b1 < r.x1 {
         return push_left(above, rest, out, place);
     }
-    place
+    Ok(place)
 }

@@ -4,8 +4,10 @@ ghost use Rattle.lists.specs.Front.{Front};
 ghost use Rattle.geomops.specs.Rects.{area_of, ring_of, bbox_of, room_in, rect_at, rects_area, wide, Pushed};
 
 use geometry::{Bbox, Point, maximum};
+use std::error::Error;
+use std::fmt;
 
-#[derive(Clone, Copy)]
+#[derive(Clone, Copy, Debug, PartialEq)]
 pub struct Rect {
     pub x0: f64,
     pub y0: f64,
@@ -13,12 +15,17 @@ pub struct Rect {
     pub y1: f64,
 }
 
-// What became of rectangles to be written: how many there are, or that the list has no room for all.
-#[derive(Clone, Copy)]
-pub enum Pieces {
-    Made(usize),
-    NoRoom,
+// A lent list has no room for all rectangles.
+#[derive(Clone, Copy, Debug, PartialEq, Eq)]
+pub struct NoRoom;
+
+impl fmt::Display for NoRoom {
+    fn fmt<W: fmt::Write>(&self, f: &mut fmt::Formatter<W>) -> fmt::Result {
+        write!(f, "no room")
+    }
 }
+
+impl Error for NoRoom {}
 
 impl Rect {
     // Width times height, each 0 where it is not above 0.
@@ -33,16 +40,8 @@ impl Rect {
         requires { 10 ≤ length ring.old }
         ensures { Front (ring_of self) ring.old ring.new 10 }
     {
-        ring[0] = self.x0;
-        ring[1] = self.y0;
-        ring[2] = self.x1;
-        ring[3] = self.y0;
-        ring[4] = self.x1;
-        ring[5] = self.y1;
-        ring[6] = self.x0;
-        ring[7] = self.y1;
-        ring[8] = self.x0;
-        ring[9] = self.y0;
+        let Self { x0, y0, x1, y1 } = self;
+        ring[..10].copy_from_slice(&[x0, y0, x1, y0, x1, y1, x0, y1, x0, y0]);
     }
 
     // The rectangle as a box.
@@ -57,33 +56,27 @@ impl Rect {
         }
     }
 
-    // Writes the rectangle at a place of out, where there is room; the next place. One past the room says that there was none.
-    fn push(self, out: &mut [f64], place: usize) -> usize
+    // Writes the rectangle at a place of out, where there is room; the next place. List and place stay two values: a struct of both would hold
+    // the list's `&mut`, and each contract on the way would have to say that it is still the same one.
+    fn push(self, out: &mut [f64], place: usize) -> Result<usize, NoRoom>
         ensures { Pushed (self ∷ []) out.old out.new place result }
     {
-        let room = out.len() / 4;
-        if room < place {
-            return place;
+        if out.len() / 4 <= place {
+            return Err(NoRoom);
         }
-        if room == place {
-            return room + 1;
-        }
-        let at = 4 * place;
-        out[at] = self.x0;
-        out[at + 1] = self.y0;
-        out[at + 2] = self.x1;
-        out[at + 3] = self.y1;
-        place + 1
+        let Self { x0, y0, x1, y1 } = self;
+        out[4 * place..4 * place + 4].copy_from_slice(&[x0, y0, x1, y1]);
+        Ok(place + 1)
     }
 
     // The same, but only of a rectangle whose width counts.
-    pub fn push_wide(self, out: &mut [f64], place: usize) -> usize
+    pub fn push_wide(self, out: &mut [f64], place: usize) -> Result<usize, NoRoom>
         ensures { Pushed (wide self) out.old out.new place result }
     {
         if self.x1 - self.x0 > Point::RESOLUTION {
             return self.push(out, place);
         }
-        place
+        Ok(place)
     }
 }
 
@@ -105,12 +98,9 @@ pub fn rect_at(rects: &[f64], i: usize) -> Rect
 pub fn rects_area(rects: &[f64]) -> f64
     ensures { result ≡ rects_area rects.now }
 {
-    let n = rects.len() / 4;
     let mut sum = 0.0;
-    let mut i = 0;
-    while i < n {
-        sum = sum + rect_at(rects, i).area();
-        i += 1;
+    for i in 0..rects.len() / 4 {
+        sum += rect_at(rects, i).area();
     }
     sum
 }

@@ -1,155 +1,123 @@
-// The words of a line, parted by single spaces: names of kinds, whole numbers, floats and rings.
-ghost use Rattle.std.specs.Prelude.{◌≡◌, ◌<◌, ◌≤◌, length, take};
+// The words of a line, parted by single spaces: names of kinds, whole numbers, floats and rings. Behind a line's end there are spaces.
+ghost use Rattle.std.specs.Prelude.{◌≡◌, ◌+◌, ◌*◌, ◌==◌, ◌<◌, ◌≤◌, not, length, drop, take_while, slice_index_or, IfSome};
+ghost use Rattle.std.specs.List.{prefix_len};
+ghost use Rattle.std.specs.Slice.Iter.{iter_rest};
 
-// A whole number that was read, and where the next word starts.
-#[derive(Clone, Copy)]
-pub struct Number {
-    pub value: usize,
-    pub next: usize,
+use std::marker::Model;
+use std::num::f64_from_bits_with_nan;
+use std::slice::Iter;
+
+// How many hexadecimal digits a float has.
+const DIGITS: usize = 16;
+
+// What is left to be read of a line.
+#[derive(Drop)]
+pub struct Words<'a> {
+    bytes: Iter<'a, u8>,
 }
 
-// A float that was read, and where the next word starts.
-#[derive(Clone, Copy)]
-pub struct Real {
-    pub value: f64,
-    pub next: usize,
+impl<'a> Model for Words<'a> {
+    ghost use Rattle.std.specs.Prelude.{ℕ, List};
+    ghost use Rattle.std.specs.Slice.Iter.{iter_rest};
+
+    ghost Value = { List ℕ };
+
+    ghost view = { λ w. iter_rest w.bytes };
 }
 
-// A ring that was read: how many coordinates it has, and where the next word starts.
-#[derive(Clone, Copy)]
-pub struct Ring {
-    pub size: usize,
-    pub next: usize,
-}
+impl<'a> Words<'a> {
+    pub fn new(line: &'a [u8]) -> Self
+        ensures { result ≡ line.now }
+    {
+        Words { bytes: line.iter() }
+    }
 
-// The byte at a place of a line, a space behind its end.
-pub fn byte_at(line: &[u8], at: usize) -> u8 {
-    if at < line.len() { line[at] } else { b' ' }
-}
+    // The next byte.
+    pub fn byte(&mut self) -> u8
+        ensures value { result ≡ slice_index_or self.old 0 32 }
+        ensures rest { self.new ≡ drop 1 self.old }
+    {
+        self.bytes.next().copied().unwrap_or(b' ')
+    }
 
-// The place after another; places stop at the largest number.
-fn after(at: usize) -> usize {
-    if at < usize::MAX { at + 1 } else { at }
-}
+    // The bytes up to the next space, which is passed over.
+    pub fn word(&mut self) -> &'a [u8]
+        ensures value { result.now ≡ take_while (λ b. not (b == 32)) self.old }
+        ensures rest { self.new ≡ drop (length result.now + 1) self.old }
+    {
+        let rest = self.bytes.as_slice();
+        let (word, rest) = rest.split_at(word_length(rest));
+        self.bytes = rest.iter();
+        self.byte();
+        word
+    }
 
-// Whether the first word of a line is this one.
-pub fn starts_with(line: &[u8], word: &[u8]) -> bool {
-    let mut i = 0;
-    while i < word.len() {
-        if byte_at(line, i) != word[i] {
-            return false;
+    // The whole number up to the next byte that is no digit, which is passed over; its last nine digits count.
+    pub fn number(&mut self) -> usize
+        ensures { result < 1000000000 }
+    {
+        let mut value = 0;
+        for d in self.bytes.by_ref().map_while(|b| digit(*b)) {
+            value = value % 100000000 * 10 + d;
         }
-        i += 1;
+        value
     }
-    byte_at(line, i) == b' '
-}
 
-// A decimal digit's value; 10 for every other byte.
-fn digit(b: u8) -> usize
-    ensures { result ≤ 10 }
-{
-    if b < b'0' {
-        return 10;
-    }
-    if b > b'9' {
-        return 10;
-    }
-    (b - b'0') as usize
-}
-
-// The whole number that starts at a place, up to the next byte that is no digit; its last nine digits count.
-pub fn number_at(line: &[u8], at: usize) -> Number
-    ensures { result.value < 1000000000 }
-{
-    let mut value = 0;
-    let mut i = at;
-    while i < line.len() {
-        let d = digit(byte_at(line, i));
-        if d == 10 {
-            return Number {
-                value,
-                next: after(i),
-            };
+    // The float of the next 16 hexadecimal digits; the byte behind them is passed over.
+    pub fn real(&mut self) -> f64
+        ensures { self.new ≡ drop 17 self.old }
+    {
+        let mut bits = 0u64;
+        for _ in 0..DIGITS {
+            bits = bits << 4 | hex_digit(self.byte());
         }
-        value = value % 100000000 * 10 + d;
-        i += 1;
+        self.byte();
+        f64_from_bits_with_nan(bits)
     }
-    Number { value, next: i }
+
+    // Reads a float into each place of a list.
+    pub fn reals(&mut self, list: &mut [f64])
+        ensures { self.new ≡ drop (17 * length list.old) self.old }
+    {
+        for x in list.iter_mut() {
+            *x = self.real();
+        }
+    }
+
+    // Reads a ring, its number of points and then x and y of each, into the front of a list, as far as that has room.
+    pub fn ring<'b>(&mut self, list: &'b mut [f64]) -> &'b [f64]
+        ensures { length result.now ≤ length list.old }
+    {
+        let size = list.len().min(2 * self.number());
+        self.reals(&mut list[..size]);
+        &list[..size]
+    }
+}
+
+// How many bytes stand before the first space.
+fn word_length(line: &[u8]) -> usize
+    ensures { result ≡ prefix_len (λ b. not (b == 32)) line.now }
+{
+    line.iter().take_while(|b| **b != b' ').count()
+}
+
+// A decimal digit's value.
+fn digit(b: u8) -> Option<usize>
+    ensures { IfSome result (λ d. d < 10) }
+{
+    match b {
+        b'0'..=b'9' => Some(usize::from(b - b'0')),
+        _ => None,
+    }
 }
 
 // A hexadecimal digit's value; 0 for every other byte.
 fn hex_digit(b: u8) -> u64
     ensures { result < 16 }
 {
-    if b < b'0' {
-        return 0;
+    match b {
+        b'0'..=b'9' => u64::from(b - b'0'),
+        b'a'..=b'f' => u64::from(b - b'a') + 10,
+        _ => 0,
     }
-    if b <= b'9' {
-        return (b - b'0') as u64;
-    }
-    if b < b'a' {
-        return 0;
-    }
-    if b <= b'f' {
-        return (b - b'a') as u64 + 10;
-    }
-    0
-}
-
-// The float of a bit pattern. A NaN has the highest exponent, and a digit below it.
-fn float_of(bits: u64) -> f64 {
-    if bits % 0x10_0000_0000_0000 == 0 {
-        return f64::from_bits(bits);
-    }
-    if bits % 0x8000_0000_0000_0000 / 0x10_0000_0000_0000 == 0x7ff {
-        return 0.0 / 0.0;
-    }
-    f64::from_bits(bits)
-}
-
-// The float whose 16 hexadecimal digits start at a place.
-pub fn real_at(line: &[u8], at: usize) -> Real {
-    let mut bits: u64 = 0;
-    let mut next = at;
-    let mut i: usize = 0;
-    while i < 16 {
-        bits = bits % 0x1000_0000_0000_0000 * 16 + hex_digit(byte_at(line, next));
-        next = after(next);
-        i += 1;
-    }
-    Real {
-        value: float_of(bits),
-        next: after(next),
-    }
-}
-
-pub fn least(a: usize, b: usize) -> usize
-    ensures { (result ≤ a) × (result ≤ b) }
-{
-    if a < b { a } else { b }
-}
-
-// Reads so many coordinates into the front of a list; where the next word starts.
-pub fn fill_reals(line: &[u8], at: usize, list: &mut [f64], size: usize) -> usize
-    requires { size ≤ length list.old }
-{
-    let mut next = at;
-    let mut i = 0;
-    while i < size {
-        let read = real_at(line, next);
-        next = read.next;
-        list[i] = read.value;
-        i += 1;
-    }
-    next
-}
-
-// Reads a ring, its number of points and then x and y of each, into the front of a list, as far as that has room.
-pub fn ring_at(line: &[u8], at: usize, ring: &mut [f64]) -> Ring
-    ensures { (result.size ≤ length ring.new) × (result.size ≡ length (take result.size ring.new)) }
-{
-    let points = number_at(line, at);
-    let size = least(2 * points.value, ring.len());
-    let next = fill_reals(line, points.next, ring, size);
-    Ring { size, next }
 }

@@ -1,60 +1,67 @@
-// The words of an answer, put behind those already there. What has no room is left out.
+// The answer to a job, written into memory that is lent.
+ghost use Rattle.std.specs.Prelude.{◌≡◌, [], length, IsOk, Some};
+ghost use Rattle.jobs.specs.Text.{Text, put, sixteen_digits};
+ghost use lib.Ieee.{binary64, to_bits};
 
-// Puts a byte behind the first n; the new count.
-pub fn put_byte(out: &mut [u8], n: usize, b: u8) -> usize {
-    if n < out.len() {
-        out[n] = b;
-        return n + 1;
+use std::fmt;
+use std::marker::Model;
+use std::num::f64_to_bits_with_nan;
+
+// An answer that is being written: the first `len` bytes of `out`. What has no room is left out.
+#[derive(Drop)]
+pub struct Answer<'a> {
+    out: &'a mut [u8],
+    len: usize,
+}
+
+impl<'a> Model for Answer<'a> {
+    ghost use Rattle.std.specs.Prelude.{◌≤◌, length, take};
+    ghost use Rattle.jobs.specs.Text.{Text};
+
+    ghost Value = { Text };
+
+    ghost view = { λ a. record { bytes = take a.len a.out.now; room = length a.out.now } };
+
+    ghost invariant = { λ a. a.len ≤ length a.out.now };
+}
+
+impl<'a> Answer<'a> {
+    pub fn new(out: &'a mut [u8]) -> Self
+        ensures { result ≡ record { bytes = []; room = length out.old } }
+    {
+        Answer { out, len: 0 }
     }
-    n
-}
 
-// Puts some bytes behind the first n; the new count.
-pub fn put_bytes(out: &mut [u8], n: usize, bytes: &[u8]) -> usize {
-    let mut count = n;
-    let mut i = 0;
-    while i < bytes.len() {
-        count = put_byte(out, count, bytes[i]);
-        i += 1;
+    pub fn written(&self) -> &[u8]
+        ensures { result.now ≡ self.now.bytes }
+    {
+        &self.out[..self.len]
     }
-    count
 }
 
-// Puts a whole number, in decimal.
-pub fn put_number(out: &mut [u8], n: usize, value: u64) -> usize {
-    let mut text = [0u8; 20];
-    let k = io::decimal(value, &mut text);
-    put_bytes(out, n, &text[..k])
-}
+impl fmt::Write for Answer<'_> {
+    ghost write_str_gives = { λ a text b. b ≡ put a text };
 
-// How large a number is, its sign dropped. The least i64 has no opposite, so one is added back behind the cast.
-fn magnitude(z: i64) -> u64 {
-    if z >= 0 {
-        return z as u64;
+    fn write_str(&mut self, text: &str) -> fmt::Result
+        ensures ok { IsOk result → self.new ≡ put self.old text.now }
+        ensures never_fails { IsOk result }
+    {
+        let n = (self.out.len() - self.len).min(text.len());
+        self.out[self.len..self.len + n].copy_from_slice(&text.as_bytes()[..n]);
+        self.len += n;
+        Ok(())
     }
-    ((0 - (z + 1)) as u64) + 1
 }
 
-// Puts a whole number with its sign, in decimal.
-pub fn put_signed(out: &mut [u8], n: usize, z: i64) -> usize {
-    if z < 0 {
-        let minus = put_byte(out, n, b'-');
-        return put_number(out, minus, magnitude(z));
+// A float, written as the 16 hexadecimal digits of its bits; of a NaN the usual ones.
+#[derive(Clone, Copy)]
+pub struct Bits(pub f64);
+
+impl fmt::Display for Bits {
+    ghost output = { λ b. Some (sixteen_digits (to_bits binary64 b.0)) };
+
+    fn fmt<W: fmt::Write>(&self, f: &mut fmt::Formatter<W>) -> fmt::Result {
+        let bits = f64_to_bits_with_nan(self.0);
+        write!(f, "{bits:016x}")
     }
-    put_number(out, n, magnitude(z))
-}
-
-// The bit pattern of a float; of a NaN the usual one.
-fn bits_of(x: f64) -> u64 {
-    if x == x {
-        return f64::to_bits(x);
-    }
-    0x7ff8_0000_0000_0000
-}
-
-// Puts a float, as the 16 hexadecimal digits of its bits.
-pub fn put_real(out: &mut [u8], n: usize, x: f64) -> usize {
-    let mut text = [0u8; 16];
-    let k = io::hex(bits_of(x), 16, &mut text);
-    put_bytes(out, n, &text[..k])
 }

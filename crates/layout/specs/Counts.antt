@@ -1,6 +1,6 @@
 -- Counts, and the tests of the answers 1, 2 and 3.
+use Rattle.std.specs.Prelude.{Option}
 use Rattle.std.specs.Prelude.{ℕ, ◌/◌, ◌%◌, max, Bool, not, ◌||◌, List, [], ◌∷◌, ◌++◌, ltb, eqb, length, get_or}
-use Rattle.lists.specs.declared.Scan.{Scan}
 use Rattle.lists.specs.Scans.{first_in, first_true, clear}
 use Rattle.names.specs.Tables.{record_count}
 use Rattle.layout.specs.Bounds.{max_polygons, max_ring, max_points, max_records, connection_room, cut_coordinates, cut_rings, channel_coordinates}
@@ -18,23 +18,23 @@ port_count names coordinates = max (record_count names 64) (record_count coordin
 -- ---- answer 1: which lent list is too short
 
 -- components for so many polygons, connections, landings for so many ports
-unfoldable pub short_extraction : ℕ → ℕ → ℕ → ℕ → ℕ → Scan
+unfoldable pub short_extraction : ℕ → ℕ → ℕ → ℕ → ℕ → Option ℕ
 short_extraction polygons ports components connections landings =
     first_true 0 (ltb components polygons ∷ ltb connections connection_room ∷ ltb landings ports ∷ [])
 
 -- coordinates, ring lengths and source indices of the cut
-unfoldable pub short_cut : ℕ → ℕ → ℕ → Scan
+unfoldable pub short_cut : ℕ → ℕ → ℕ → Option ℕ
 short_cut coordinates lengths sources =
     first_true 0 (ltb coordinates cut_coordinates ∷ ltb lengths cut_rings ∷ ltb sources cut_rings ∷ [])
 
 -- coordinates of the channel regions
-unfoldable pub short_channel : ℕ → Scan
+unfoldable pub short_channel : ℕ → Option ℕ
 short_channel coordinates = first_true 0 (ltb coordinates channel_coordinates ∷ [])
 
 -- ---- answer 2: which count is over its bound
 
 -- the first ring of too many points
-unfoldable pub long_ring : List ℕ → Scan
+unfoldable pub long_ring : List ℕ → Option ℕ
 long_ring lengths = first_in (λ i. ltb max_ring (get_or lengths i 0)) 0 (length lengths)
 
 -- places 0 to 3: polygons, points, one ring, layers
@@ -48,24 +48,24 @@ table_tests conducting via stack ports =
     ltb max_records conducting ∷ ltb max_records via ∷ ltb max_records stack ∷ ltb max_records ports ∷ []
 
 -- of a layout: its ring lengths, the number of its coordinates and of its layer records
-unfoldable pub over_layout : List ℕ → ℕ → ℕ → Scan
+unfoldable pub over_layout : List ℕ → ℕ → ℕ → Option ℕ
 over_layout lengths coordinates layers = first_true 0 (layout_tests lengths coordinates layers)
 
 -- of the other tables, by the numbers of their records
-unfoldable pub over_tables : ℕ → ℕ → ℕ → ℕ → Scan
+unfoldable pub over_tables : ℕ → ℕ → ℕ → ℕ → Option ℕ
 over_tables conducting via stack ports = first_true 4 (table_tests conducting via stack ports)
 
 -- of both
-unfoldable pub over_both : List ℕ → ℕ → ℕ → ℕ → ℕ → ℕ → ℕ → Scan
+unfoldable pub over_both : List ℕ → ℕ → ℕ → ℕ → ℕ → ℕ → ℕ → Option ℕ
 over_both lengths coordinates layers conducting via stack ports =
     first_true 0 (layout_tests lengths coordinates layers ++ table_tests conducting via stack ports)
 
 -- a cut or channel regions
-abbrev pub over_cut : Layout → Scan
+abbrev pub over_cut : Layout → Option ℕ
 over_cut l = over_layout l.lengths (length l.points) (layer_count (length l.layer_numbers) (length l.layer_names))
 
 -- an extraction
-abbrev pub over_extraction : Job → Scan
+abbrev pub over_extraction : Job → Option ℕ
 over_extraction job =
     over_both job.layout.lengths (length job.layout.points) (layer_count (length job.layout.layer_numbers) (length job.layout.layer_names))
     (record_count (length job.conducting) 64) (record_count (length job.via) 64) (record_count (length job.stack) 96)

@@ -1,5 +1,8 @@
 -- The whole input of a call, list by list.
 use Rattle.std.specs.Prelude.{ℕ, List, Float, ℤ}
+use Rattle.layout.specs.declared.job.Layout.{Layout as LentLayout}
+use Rattle.layout.specs.declared.job.Job.{Job as LentJob}
+use Rattle.layout.specs.declared.job.CutJob.{CutJob as LentCutJob}
 
 -- the polygons and the layer table, which every call takes
 pub record Layout : Type 0 where
@@ -32,21 +35,25 @@ pub record CutJob : Type 0 where
   pub gate : List ℕ
   pub active : List ℕ
 
--- each from its lists, in the order of the calls' parameters
-abbrev pub layout_of : List Float → List ℕ → List ℤ → List ℤ → List ℕ → Layout
-layout_of points lengths layers layer_numbers layer_names =
-    record { points = points; lengths = lengths; layers = layers; layer_numbers = layer_numbers; layer_names = layer_names }
-
-abbrev pub job_of : List Float → List ℕ → List ℤ → List ℤ → List ℕ → List ℕ → List ℕ → List ℕ → List ℕ → List Float → Job
-job_of points lengths layers layer_numbers layer_names conducting via stack port_names port_points = record {
-  layout = layout_of points lengths layers layer_numbers layer_names;
-  conducting = conducting;
-  via = via;
-  stack = stack;
-  port_names = port_names;
-  port_points = port_points;
+-- what a caller lends, by what its lists hold
+abbrev pub layout_of : LentLayout → Layout
+layout_of l = record {
+  points = l.points.now;
+  lengths = l.lengths.now;
+  layers = l.layers.now;
+  layer_numbers = l.layer_numbers.now;
+  layer_names = l.layer_names.now;
 }
 
-abbrev pub cut_job_of : List Float → List ℕ → List ℤ → List ℤ → List ℕ → List ℕ → List ℕ → CutJob
-cut_job_of points lengths layers layer_numbers layer_names gate active =
-    record { layout = layout_of points lengths layers layer_numbers layer_names; gate = gate; active = active }
+abbrev pub job_of : LentJob → Job
+job_of j = record {
+  layout = layout_of j.layout;
+  conducting = j.conducting.now;
+  via = j.via.now;
+  stack = j.stack.now;
+  port_names = j.port_names.now;
+  port_points = j.port_points.now;
+}
+
+abbrev pub cut_job_of : LentCutJob → CutJob
+cut_job_of j = record { layout = layout_of j.layout; gate = j.gate.now; active = j.active.now }

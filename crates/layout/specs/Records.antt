@@ -1,16 +1,15 @@
 -- Answer 5: which records are allowed. Each is wholly there, with its names allowed; a key of the layer, conducting or via map is new.
+use Rattle.std.specs.Prelude.{Option, Some, None}
 use Rattle.std.specs.Prelude.{ℕ, ◌+◌, ◌*◌, ◌/◌, Bool, false, not, ◌&&◌, List, ltb, eqb, ℤ, pos, length, get_or}
-use Rattle.lists.specs.declared.Scan.{Scan}
-use Rattle.lists.specs.declared.Scan.TheVariants.{Clear, At}
 use Rattle.lists.specs.Scans.{first_in}
 use Rattle.names.specs.Fields.{name_allowed, name_or_absent, field_at}
 use Rattle.names.specs.Tables.{record_count, look_up, layer_record}
 use Rattle.layout.specs.Counts.{layer_count, port_count}
 
 -- a search that found record k
-abbrev pub found_at : ℕ → Scan → Bool
-found_at k Clear = false
-found_at k (At j) = eqb j k
+abbrev pub found_at : ℕ → Option ℕ → Bool
+found_at k None = false
+found_at k (Some j) = eqb j k
 
 -- layer table: number, logical
 unfoldable pub layer_named : List ℤ → List ℕ → ℕ → Bool
@@ -39,14 +38,14 @@ port_allowed names coordinates k = pair_named names k && ltb k (coordinates / 2)
 
 -- ---- the first record of each table that is not allowed
 
-unfoldable pub bad_layer : List ℤ → List ℕ → Scan
+unfoldable pub bad_layer : List ℤ → List ℕ → Option ℕ
 bad_layer numbers names = first_in (λ k. not (layer_allowed numbers names k)) 0 (layer_count (length numbers) (length names))
 
-unfoldable pub bad_pair : List ℕ → Scan
+unfoldable pub bad_pair : List ℕ → Option ℕ
 bad_pair table = first_in (λ k. not (pair_allowed table k)) 0 (record_count (length table) 64)
 
-unfoldable pub bad_stack : List ℕ → Scan
+unfoldable pub bad_stack : List ℕ → Option ℕ
 bad_stack table = first_in (λ k. not (stack_allowed table k)) 0 (record_count (length table) 96)
 
-unfoldable pub bad_port : List ℕ → ℕ → Scan
+unfoldable pub bad_port : List ℕ → ℕ → Option ℕ
 bad_port names coordinates = first_in (λ k. not (port_allowed names coordinates k)) 0 (port_count (length names) coordinates)

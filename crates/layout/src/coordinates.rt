@@ -4,8 +4,6 @@ ghost use Rattle.std.specs.Prelude.{◌≡◌};
 ghost use Rattle.geometry.specs.Coordinates.{coordinate};
 ghost use Rattle.layout.specs.Coordinates.{bad_coordinate};
 
-use lists::Scan;
-
 // Whether x is finite, from -0.125 to 0.125, and not negative zero.
 pub fn is_coordinate(x: f64) -> bool
     ensures { result ≡ coordinate x }
@@ -24,15 +22,8 @@ pub fn is_coordinate(x: f64) -> bool
 }
 
 // The first coordinate of a list that is out of bounds.
-pub fn bad_coordinate(list: &[f64]) -> Scan
+pub fn bad_coordinate(list: &[f64]) -> Option<usize>
     ensures { result ≡ bad_coordinate list.now }
 {
-    let mut i = 0;
-    while i < list.len() {
-        if !is_coordinate(list[i]) {
-            return Scan::At(i);
-        }
-        i += 1;
-    }
-    Scan::Clear
+    list.iter().position(|x| !is_coordinate(*x))
 }

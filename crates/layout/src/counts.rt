@@ -8,125 +8,104 @@ use crate::bounds::{
     CHANNEL_COORDINATES, CONNECTION_ROOM, CUT_COORDINATES, CUT_RINGS, MAX_POINTS, MAX_POLYGONS,
     MAX_RECORDS, MAX_RING,
 };
-use lists::Scan;
-use names::tables::{larger, record_count};
+use names::tables::record_count;
 
 // How many records the layer table has, from the lengths of its lists.
 pub fn layer_count(numbers: usize, names: usize) -> usize
     ensures { result ≡ layer_count numbers names }
 {
-    larger(numbers, record_count(names, 32))
+    numbers.max(record_count(names, 32))
 }
 
 // How many ports there are, from the lengths of their lists.
 pub fn port_count(names: usize, coordinates: usize) -> usize
     ensures { result ≡ port_count names coordinates }
 {
-    larger(record_count(names, 64), record_count(coordinates, 2))
+    record_count(names, 64).max(record_count(coordinates, 2))
 }
 
 // ---- answer 1
 
 // The first of the extraction's lent lists that is too short.
+#[tactic(auto, unfolding(crate::specs::Counts::short_extraction))]
 pub fn short_extraction(
     polygons: usize,
     ports: usize,
     components: usize,
     connections: usize,
     landings: usize,
-) -> Scan
+) -> Option<usize>
     ensures { result ≡ short_extraction polygons ports components connections landings }
 {
-    if components < polygons {
-        return Scan::At(0);
-    }
-    if connections < CONNECTION_ROOM {
-        return Scan::At(1);
-    }
-    if landings < ports {
-        return Scan::At(2);
-    }
-    Scan::Clear
+    [
+        components < polygons,
+        connections < CONNECTION_ROOM,
+        landings < ports,
+    ]
+    .iter()
+    .position(|short| *short)
 }
 
 // The first of the cut's lent lists that is too short.
-pub fn short_cut(coordinates: usize, lengths: usize, sources: usize) -> Scan
+#[tactic(auto, unfolding(crate::specs::Counts::short_cut))]
+pub fn short_cut(coordinates: usize, lengths: usize, sources: usize) -> Option<usize>
     ensures { result ≡ short_cut coordinates lengths sources }
 {
-    if coordinates < CUT_COORDINATES {
-        return Scan::At(0);
-    }
-    if lengths < CUT_RINGS {
-        return Scan::At(1);
-    }
-    if sources < CUT_RINGS {
-        return Scan::At(2);
-    }
-    Scan::Clear
+    [
+        coordinates < CUT_COORDINATES,
+        lengths < CUT_RINGS,
+        sources < CUT_RINGS,
+    ]
+    .iter()
+    .position(|short| *short)
 }
 
 // Whether the channel regions' lent list is too short.
-pub fn short_channel(coordinates: usize) -> Scan
+#[tactic(auto, unfolding(crate::specs::Counts::short_channel))]
+pub fn short_channel(coordinates: usize) -> Option<usize>
     ensures { result ≡ short_channel coordinates }
 {
-    if coordinates < CHANNEL_COORDINATES {
-        return Scan::At(0);
-    }
-    Scan::Clear
+    (coordinates < CHANNEL_COORDINATES).then_some(0)
 }
 
 // ---- answer 2
 
 // The first ring of too many points.
-fn long_ring(lengths: &[usize]) -> Scan
+fn long_ring(lengths: &[usize]) -> Option<usize>
     ensures { result ≡ long_ring lengths.now }
 {
-    let mut i = 0;
-    while i < lengths.len() {
-        if lengths[i] > MAX_RING {
-            return Scan::At(i);
-        }
-        i += 1;
-    }
-    Scan::Clear
+    lengths.iter().position(|n| *n > MAX_RING)
 }
 
 // The first count of a layout that is over its bound: polygons, points, one ring, layers.
-pub fn over_layout(lengths: &[usize], coordinates: usize, layers: usize) -> Scan
+#[tactic(auto, unfolding(crate::specs::Counts::over_layout))]
+pub fn over_layout(lengths: &[usize], coordinates: usize, layers: usize) -> Option<usize>
     ensures { result ≡ over_layout lengths.now coordinates layers }
 {
-    if lengths.len() > MAX_POLYGONS {
-        return Scan::At(0);
-    }
-    if coordinates / 2 > MAX_POINTS {
-        return Scan::At(1);
-    }
-    if let Scan::At(_) = long_ring(lengths) {
-        return Scan::At(2);
-    }
-    if layers > MAX_RECORDS {
-        return Scan::At(3);
-    }
-    Scan::Clear
+    [
+        lengths.len() > MAX_POLYGONS,
+        coordinates / 2 > MAX_POINTS,
+        long_ring(lengths).is_some(),
+        layers > MAX_RECORDS,
+    ]
+    .iter()
+    .position(|over| *over)
 }
 
 // The first table of too many records, by its place among the counts: conducting, via, stack, ports.
-pub fn over_tables(conducting: usize, via: usize, stack: usize, ports: usize) -> Scan
+#[tactic(auto, unfolding(crate::specs::Counts::over_tables))]
+pub fn over_tables(conducting: usize, via: usize, stack: usize, ports: usize) -> Option<usize>
     ensures { result ≡ over_tables conducting via stack ports }
 {
-    if conducting > MAX_RECORDS {
-        return Scan::At(4);
-    }
-    if via > MAX_RECORDS {
-        return Scan::At(5);
-    }
-    if stack > MAX_RECORDS {
-        return Scan::At(6);
-    }
-    if ports > MAX_RECORDS {
-        return Scan::At(7);
-    }
-    Scan::Clear
+    let first = [
+        conducting > MAX_RECORDS,
+        via > MAX_RECORDS,
+        stack > MAX_RECORDS,
+        ports > MAX_RECORDS,
+    ]
+    .iter()
+    .position(|over| *over)?;
+    Some(4 + first)
 }
 
 // ---- answer 3
@@ -136,27 +115,19 @@ fn adds_up(lengths: &[usize], points: usize) -> bool
     ensures { result ≡ eqb (total lengths.now) points }
 {
     let mut left = points;
-    let mut i = 0;
-    while i < lengths.len() {
-        let ring = lengths[i];
-        if left < ring {
+    for ring in lengths {
+        let Some(rest) = left.checked_sub(*ring) else {
             return false;
-        }
-        left -= ring;
-        i += 1;
+        };
+        left = rest;
     }
     left == 0
 }
 
 // Whether the lists of a layout do not fit together.
+#[tactic(auto, unfolding(crate::specs::Counts::uneven))]
 pub fn is_uneven(coordinates: usize, lengths: &[usize], layers: usize) -> bool
     ensures { result ≡ uneven coordinates lengths.now layers }
 {
-    if coordinates % 2 != 0 {
-        return true;
-    }
-    if lengths.len() != layers {
-        return true;
-    }
-    !adds_up(lengths, coordinates / 2)
+    coordinates % 2 != 0 || lengths.len() != layers || !adds_up(lengths, coordinates / 2)
 }

@@ -5,5 +5,7 @@ pub mod bounds;
 pub mod coordinates;
 pub mod counts;
 pub mod door;
+pub mod job;
 pub mod records;
+pub mod refusal;
 pub mod rings;

@@ -10,13 +10,11 @@ pub fn ring_starts(lengths: &[usize], starts: &mut [usize])
     ensures { Front (starts_of lengths.now) starts.old starts.new (length lengths.now + 1) }
 {
     let mut at = 0;
-    let mut i = 0;
-    while i < lengths.len() {
+    for (i, points) in lengths.iter().enumerate() {
         starts[i] = at;
-        at += 2 * lengths[i];
-        i += 1;
+        at += 2 * points;
     }
-    starts[i] = at;
+    starts[lengths.len()] = at;
 }
 
 // The ring of polygon i, by the starts in a work list; empty if there is none.
@@ -27,7 +25,5 @@ pub fn ring<'a>(points: &'a [f64], lengths: &[usize], starts: &[usize], i: usize
     if lengths.len() <= i {
         return &points[..0];
     }
-    let from = starts[i];
-    let to = starts[i + 1];
-    &points[from..to]
+    &points[starts[i]..starts[i + 1]]
 }

@@ -1,4 +1,4 @@
-// What every loop over a lent list needs: the first place that a search finds, and the fills with the empty marks.
+// What every lent list needs: the empty marks of its elements, and the fills with them.
 // The laws of a written front, of filling, of scanning and of gathering stand in proofs/Laws.
 #![tactic(auto)]
 
@@ -11,31 +11,30 @@ pub const EMPTY_NUMBER: usize = usize::MAX;
 
 pub const EMPTY_COORDINATE: f64 = 0.0;
 
-// What a search through a list finds: nothing, or the first place.
-#[derive(Clone, Copy)]
-pub enum Scan {
-    Clear,
-    At(usize),
+// What the lists that callers lend are made of: whole numbers and coordinates, each with its empty mark.
+pub trait Marked: Copy {
+    ghost MARK: { Self };
+
+    const MARK: Self;
 }
 
-// Fills a lent list of whole numbers with its empty mark, from a place to its end.
-pub fn fill_numbers(list: &mut [usize], from: usize)
-    ensures { list.new ≡ filled_from from empty_number list.old }
-{
-    let mut i = from;
-    while i < list.len() {
-        list[i] = EMPTY_NUMBER;
-        i += 1;
-    }
+impl Marked for usize {
+    ghost MARK = { empty_number };
+
+    const MARK: usize = EMPTY_NUMBER;
 }
 
-// Fills a lent list of coordinates with its empty mark, from a place to its end.
-pub fn fill_coordinates(list: &mut [f64], from: usize)
-    ensures { list.new ≡ filled_from from empty_coordinate list.old }
+impl Marked for f64 {
+    ghost MARK = { empty_coordinate };
+
+    const MARK: f64 = EMPTY_COORDINATE;
+}
+
+// Fills a lent list with its empty mark, from a place to its end.
+pub fn fill<T: Marked>(list: &mut [T], from: usize)
+    ensures { list.new ≡ filled_from from T.MARK list.old }
 {
-    let mut i = from;
-    while i < list.len() {
-        list[i] = EMPTY_COORDINATE;
-        i += 1;
+    for i in from..list.len() {
+        list[i] = T::MARK;
     }
 }

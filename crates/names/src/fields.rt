@@ -2,9 +2,9 @@
 // A list may be of any length and hold any bytes: a field that is not wholly there holds no name, and is neither the same
 // as another nor before it.
 
-ghost use Rattle.std.specs.Prelude.{◌≡◌, ◌&&◌, leb, length};
+ghost use Rattle.std.specs.Prelude.{◌≡◌, true, false, length, MatchOption};
 ghost use Rattle.names.specs.Bytes.{all};
-ghost use Rattle.names.specs.Fields.{visible, is_zero, name_of, name_allowed, name_or_absent, field_at, whole_at, same_field, field_before};
+ghost use Rattle.names.specs.Fields.{visible, is_zero, allowed, name_of, name_allowed, name_or_absent, field_at, whole_at, same_field, field_before};
 
 // Whether a name may have this byte.
 fn is_visible(b: u8) -> bool
@@ -17,150 +17,109 @@ fn is_visible(b: u8) -> bool
 fn all_visible(bytes: &[u8]) -> bool
     ensures { result ≡ all visible bytes.now }
 {
-    let mut i = 0;
-    while i < bytes.len() {
-        if !is_visible(bytes[i]) {
-            return false;
-        }
-        i += 1;
-    }
-    true
+    bytes.iter().all(|b| is_visible(*b))
 }
 
 // Whether there are zeros alone.
 fn all_zero(bytes: &[u8]) -> bool
     ensures { result ≡ all is_zero bytes.now }
 {
-    let mut i = 0;
-    while i < bytes.len() {
-        if bytes[i] != 0 {
-            return false;
-        }
-        i += 1;
-    }
-    true
+    bytes.iter().all(|b| *b == 0)
 }
 
 // How many bytes of a field stand before its padding.
 pub fn name_length(field: &[u8]) -> usize
     ensures { result ≡ length (name_of field.now) }
 {
-    let mut i = 0;
-    while i < field.len() {
-        if field[i] == 0 {
-            return i;
-        }
-        i += 1;
-    }
-    i
+    field.iter().position(|b| *b == 0).unwrap_or(field.len())
 }
 
-// Whether a field holds an allowed name, and nothing behind it.
+// Whether these bytes are an allowed name.
+#[tactic(auto, using(crate::proofs::Laws::Library::same_is), unfolding(crate::specs::Fields::allowed))]
+fn is_allowed(name: &[u8]) -> bool
+    ensures { result ≡ allowed name.now }
+{
+    0 < name.len() && name.len() <= 32 && all_visible(name) && name != b"-".as_slice()
+}
+
+// Whether a field holds an allowed name, and zeros alone behind it.
+#[tactic(auto, using(crate::proofs::Laws::Fields::name_within, crate::proofs::Laws::Fields::name_front), unfolding(crate::specs::Fields::name_allowed))]
 pub fn name_allowed(field: &[u8]) -> bool
     ensures { result ≡ name_allowed field.now }
 {
-    if field.len() != 32 {
-        return false;
-    }
-    let end = name_length(field);
-    if !all_zero(&field[end..]) {
-        return false;
-    }
-    if end == 0 {
-        return false;
-    }
-    if !all_visible(&field[..end]) {
-        return false;
-    }
-    if end != 1 {
-        return true;
-    }
-    field[0] != b'-'
+    let (name, padding) = field.split_at(name_length(field));
+    field.len() == 32 && all_zero(padding) && is_allowed(name)
 }
 
 // Whether a field holds an allowed name, or is absent: 32 zeros.
+#[tactic(auto, unfolding(crate::specs::Fields::name_or_absent))]
 pub fn name_or_absent(field: &[u8]) -> bool
     ensures { result ≡ name_or_absent field.now }
 {
-    if name_allowed(field) {
-        return true;
-    }
-    if field.len() != 32 {
-        return false;
-    }
-    all_zero(field)
+    name_allowed(field) || field.len() == 32 && all_zero(field)
 }
 
-// ---- fields of a table
-
-// Whether the field that starts at a byte of a table is wholly there.
-pub fn whole_at(table: &[u8], at: usize) -> bool
-    ensures { result ≡ whole_at table.now at }
-{
-    if table.len() < 32 {
-        return false;
-    }
-    at <= table.len() - 32
+// The field that starts at a byte of a table, as far as it is there.
+#[derive(Clone, Copy)]
+pub struct Field<'a> {
+    pub table: &'a [u8],
+    pub at: usize,
 }
 
-// Whether the field that starts at a byte of a table holds an allowed name.
-pub fn name_at(table: &[u8], at: usize) -> bool
-    ensures { result ≡ name_allowed (field_at table.now at) }
-{
-    if !whole_at(table, at) {
-        return false;
+impl<'a> Field<'a> {
+    // Whether the field is wholly there.
+    pub fn is_whole(self) -> bool
+        ensures { result ≡ whole_at self.entry.table.now self.entry.at }
+    {
+        32 <= self.table.len() && self.at <= self.table.len() - 32
     }
-    name_allowed(&table[at..at + 32])
-}
 
-// Whether the field that starts at a byte of a table holds an allowed name, or is absent.
-pub fn name_or_absent_at(table: &[u8], at: usize) -> bool
-    ensures { result ≡ name_or_absent (field_at table.now at) }
-{
-    if !whole_at(table, at) {
-        return false;
+    // Its bytes, if it is wholly there.
+    fn bytes(self) -> Option<&'a [u8]>
+        ensures { MatchOption result (whole_at self.entry.table.now self.entry.at ≡ false) (λ b. (whole_at self.entry.table.now self.entry.at ≡ true) × (b.now ≡ field_at self.entry.table.now self.entry.at)) }
+    {
+        if self.is_whole() {
+            Some(&self.table[self.at..self.at + 32])
+        } else {
+            None
+        }
     }
-    name_or_absent(&table[at..at + 32])
-}
 
-// Whether two fields are the same: for allowed names exactly when the names are equal.
-pub fn same_field(a: &[u8], at_a: usize, b: &[u8], at_b: usize) -> bool
-    ensures { result ≡ same_field a.now at_a b.now at_b }
-{
-    if !whole_at(a, at_a) {
-        return false;
+    // Whether it holds an allowed name.
+    #[tactic(auto, using(crate::proofs::Laws::Fields::no_name_short))]
+    pub fn is_named(self) -> bool
+        ensures { result ≡ name_allowed (field_at self.entry.table.now self.entry.at) }
+    {
+        self.bytes().is_some_and(|field| name_allowed(field))
     }
-    if !whole_at(b, at_b) {
-        return false;
+
+    // Whether it holds an allowed name, or is absent.
+    #[tactic(auto, using(crate::proofs::Laws::Fields::no_absent_short))]
+    pub fn is_named_or_absent(self) -> bool
+        ensures { result ≡ name_or_absent (field_at self.entry.table.now self.entry.at) }
+    {
+        self.bytes().is_some_and(|field| name_or_absent(field))
     }
-    let mut i = 0;
-    while i < 32 {
-        if a[at_a + i] != b[at_b + i] {
+
+    // Whether two fields are the same: for allowed names exactly when the names are equal.
+    #[tactic(auto, using(crate::proofs::Laws::Library::same_is), unfolding(crate::specs::Fields::same_field))]
+    pub fn is_same(self, other: Field) -> bool
+        ensures { result ≡ same_field self.entry.table.now self.entry.at other.entry.table.now other.entry.at }
+    {
+        let (Some(a), Some(b)) = (self.bytes(), other.bytes()) else {
             return false;
-        }
-        i += 1;
+        };
+        a == b
     }
-    true
-}
 
-// Whether one field comes before another: for allowed names exactly when the one name does, in byte order.
-pub fn field_before(a: &[u8], at_a: usize, b: &[u8], at_b: usize) -> bool
-    ensures { result ≡ field_before a.now at_a b.now at_b }
-{
-    if !whole_at(a, at_a) {
-        return false;
+    // Whether one field comes before another: for allowed names exactly when the one name does, in byte order.
+    #[tactic(auto, using(crate::proofs::Laws::Library::before_is), unfolding(crate::specs::Fields::field_before))]
+    pub fn is_before(self, other: Field) -> bool
+        ensures { result ≡ field_before self.entry.table.now self.entry.at other.entry.table.now other.entry.at }
+    {
+        let (Some(a), Some(b)) = (self.bytes(), other.bytes()) else {
+            return false;
+        };
+        a < b
     }
-    if !whole_at(b, at_b) {
-        return false;
-    }
-    let mut i = 0;
-    while i < 32 {
-        let x = a[at_a + i];
-        let y = b[at_b + i];
-        if x != y {
-            return x < y;
-        }
-        i += 1;
-    }
-    false
 }

@@ -11,56 +11,37 @@ use crate::fields::name_length;
 fn begins_with(name: &[u8], pattern: &[u8]) -> bool
     ensures { result ≡ begins_with pattern.now name.now }
 {
-    if name.len() < pattern.len() {
-        return false;
-    }
-    let mut i = 0;
-    while i < pattern.len() {
-        if pattern[i] != name[i] {
-            return false;
-        }
-        i += 1;
-    }
-    true
+    name.starts_with(pattern)
 }
 
 // Whether a pattern stands anywhere in a name.
 fn contains_pattern(name: &[u8], pattern: &[u8]) -> bool
     ensures { result ≡ contains pattern.now name.now }
 {
-    let mut at = 0;
-    while at < name.len() {
+    for at in 0..name.len() {
         if begins_with(&name[at..], pattern) {
             return true;
         }
-        at += 1;
     }
-    pattern.len() == 0
+    pattern.is_empty()
 }
 
 // Whether these bytes, a name without its padding, are a marker's.
+#[tactic(auto, unfolding(crate::specs::Markers::is_marker))]
 fn is_marker_name(name: &[u8]) -> bool
     ensures { result ≡ is_marker name.now }
 {
-    if begins_with(name, b"seed_") {
-        return true;
-    }
-    if begins_with(name, b"BLOCK_") {
-        return true;
-    }
-    if contains_pattern(name, b"_prop") {
-        return true;
-    }
-    if contains_pattern(name, b"marker") {
-        return true;
-    }
-    contains_pattern(name, b"drawing")
+    begins_with(name, b"seed_")
+        || begins_with(name, b"BLOCK_")
+        || contains_pattern(name, b"_prop")
+        || contains_pattern(name, b"marker")
+        || contains_pattern(name, b"drawing")
 }
 
 // Whether the name in a field is a marker's.
+#[tactic(auto, using(crate::proofs::Laws::Fields::name_within, crate::proofs::Laws::Fields::name_front))]
 pub fn is_marker(field: &[u8]) -> bool
     ensures { result ≡ is_marker (name_of field.now) }
 {
-    let end = name_length(field);
-    is_marker_name(&field[..end])
+    is_marker_name(&field[..name_length(field)])
 }

@@ -1,99 +1,78 @@
 // The answer to one job, by its kind.
-use crate::rings::{answer_bands, answer_intervals, answer_meet, answer_minus, answer_rects};
+use crate::rings::{answer_bands, answer_intervals, answer_pieces, answer_rects};
 use crate::tables::answer_joins;
 use geometry::Bbox;
-use jobs::words::{real_at, ring_at, starts_with};
-use jobs::writing::{put_byte, put_bytes, put_real, put_signed};
+use geomops::Operation;
+use jobs::words::Words;
+use jobs::writing::{Answer, Bits};
 use names::markers::is_marker;
+use std::fmt;
+use std::fmt::Write;
 
 // `cell X`: the cell of a coordinate.
-fn answer_cell(line: &[u8], out: &mut [u8]) -> usize {
-    let x = real_at(line, 5);
-    put_signed(out, 0, geometry::cell(x.value))
+fn answer_cell(words: &mut Words<'_>, out: &mut Answer<'_>) -> fmt::Result {
+    let cell = geometry::cell(words.real());
+    write!(out, "{cell}")
 }
 
 // `area RING`: the area of a ring.
-fn answer_area(line: &[u8], rings: &mut [f64], out: &mut [u8]) -> usize {
-    let ring = ring_at(line, 5, rings);
-    let size = ring.size;
-    put_real(out, 0, geometry::polygon_area(&rings[..size]))
+fn answer_area(words: &mut Words<'_>, out: &mut Answer<'_>) -> fmt::Result {
+    let mut room = [0.0; 1024];
+    let area = geometry::polygon_area(words.ring(&mut room));
+    write!(out, "{}", Bits(area))
 }
 
 // The corners of a box, parted by spaces.
-fn put_box(out: &mut [u8], b: Bbox) -> usize {
-    let n = put_real(out, 0, b.min_x);
-    let n = put_byte(out, n, b' ');
-    let n = put_real(out, n, b.min_y);
-    let n = put_byte(out, n, b' ');
-    let n = put_real(out, n, b.max_x);
-    let n = put_byte(out, n, b' ');
-    put_real(out, n, b.max_y)
+fn put_box(b: Bbox, out: &mut Answer<'_>) -> fmt::Result {
+    write!(
+        out,
+        "{} {} {} {}",
+        Bits(b.min_x),
+        Bits(b.min_y),
+        Bits(b.max_x),
+        Bits(b.max_y)
+    )
 }
 
 // `box RING`: the box around a ring, or `empty`.
-fn answer_box(line: &[u8], rings: &mut [f64], out: &mut [u8]) -> usize {
-    let ring = ring_at(line, 4, rings);
-    let size = ring.size;
-    let bounds = Bbox::from_points(&rings[..size]);
+fn answer_box(words: &mut Words<'_>, out: &mut Answer<'_>) -> fmt::Result {
+    let mut room = [0.0; 1024];
+    let bounds = Bbox::from_points(words.ring(&mut room));
     if bounds.is_empty() {
-        return put_bytes(out, 0, b"empty");
+        return out.write_str("empty");
     }
-    put_box(out, bounds)
-}
-
-// `1` or `0`.
-fn put_answer(out: &mut [u8], yes: bool) -> usize {
-    if yes {
-        return put_byte(out, 0, b'1');
-    }
-    put_byte(out, 0, b'0')
+    put_box(bounds, out)
 }
 
 // `marker NAME`: whether a name is a marker's.
-fn answer_marker(line: &[u8], out: &mut [u8]) -> usize {
-    if line.len() < 7 {
-        return 0;
-    }
-    put_answer(out, is_marker(&line[7..]))
+fn answer_marker(line: &[u8], out: &mut Answer<'_>) -> fmt::Result {
+    let Some(name) = line.strip_prefix(b"marker ") else {
+        return Ok(());
+    };
+    let yes = u8::from(is_marker(name));
+    write!(out, "{yes}")
 }
 
 // The answer to a job that is one of the kinds above.
-fn answer_kind(line: &[u8], rings: &mut [f64], out: &mut [u8]) -> usize {
-    if starts_with(line, b"cell") {
-        return answer_cell(line, out);
+fn answer_kind(line: &[u8], out: &mut Answer<'_>) -> fmt::Result {
+    let mut words = Words::new(line);
+    match words.word() {
+        b"cell" => answer_cell(&mut words, out),
+        b"area" => answer_area(&mut words, out),
+        b"box" => answer_box(&mut words, out),
+        b"intervals" => answer_intervals(&mut words, out),
+        b"bands" => answer_bands(&mut words, out),
+        b"minus" => answer_pieces(Operation::Minus, &mut words, out),
+        b"meet" => answer_pieces(Operation::Intersection, &mut words, out),
+        b"rects" => answer_rects(&mut words, out),
+        b"marker" => answer_marker(line, out),
+        b"joins" => answer_joins(&mut words, out),
+        _ => out.write_str("bad"),
     }
-    if starts_with(line, b"area") {
-        return answer_area(line, rings, out);
-    }
-    if starts_with(line, b"box") {
-        return answer_box(line, rings, out);
-    }
-    if starts_with(line, b"intervals") {
-        return answer_intervals(line, out);
-    }
-    if starts_with(line, b"bands") {
-        return answer_bands(line, out);
-    }
-    if starts_with(line, b"minus") {
-        return answer_minus(line, out);
-    }
-    if starts_with(line, b"meet") {
-        return answer_meet(line, out);
-    }
-    if starts_with(line, b"rects") {
-        return answer_rects(line, out);
-    }
-    if starts_with(line, b"marker") {
-        return answer_marker(line, out);
-    }
-    if starts_with(line, b"joins") {
-        return answer_joins(line, out);
-    }
-    put_bytes(out, 0, b"bad")
 }
 
-// The answer to a job, ended by a line feed; how many bytes it has.
-pub fn answer(line: &[u8], rings: &mut [f64], out: &mut [u8]) -> usize {
-    let n = answer_kind(line, rings, out);
-    put_byte(out, n, b'\n')
+// The answer to a job, ended by a line feed.
+pub fn answer(line: &[u8], out: &mut Answer<'_>) -> fmt::Result {
+    answer_kind(line, out)?;
+    writeln!(out)
 }

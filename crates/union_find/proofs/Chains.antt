@@ -6,7 +6,7 @@ use mathlib.Core.Logic.{◌⊎◌, inl, inr, ⊎_elim, ◌↔◌}
 use mathlib.Core.List.Memᴰ
 use mathlib.Core.List.{List, [], ◌∷◌, Memᴰ}
 use native.Mathlib.Decide.{ℕ_discrete}
-use Rattle.union_find.specs.declared.UnionFind.{UnionFind}
+use Rattle.union_find.specs.declared.Table.{Table}
 use Rattle.union_find.specs.Forest.{max_polygons, root_of}
 use Rattle.union_find.specs.Table.{WellFormed, fresh, joined, looked, OneRoot, Unites}
 use Rattle.union_find.specs.Chain.{Link, Chain, here, forth, back, Op, join, look, step, run, after, links_of, joins, Inside, Within, BetweenPolygons}
@@ -33,7 +33,7 @@ module _ {links : List Link} where
 
 -- ---- what one union does to pairs of polygons
 
-module _ {t u : UnionFind} {a b : ℕ} (unites : Unites t a b u) where
+module _ {t u : Table} {a b : ℕ} (unites : Unites t a b u) where
   -- x is of one of the two classes, or of neither
   side : (x : ℕ) → (OneRoot t x a ⊎ OneRoot t x b) ⊎ ((¬ OneRoot t x a) × (¬ OneRoot t x b))
   side x =
@@ -74,12 +74,12 @@ module _ {t u : UnionFind} {a b : ℕ} (unites : Unites t a b u) where
 
 -- ---- from a chain to one root
 
-step_keeps : (op : Op) (t : UnionFind) → WellFormed t → Inside op → (i j : ℕ) → OneRoot t i j → OneRoot (step op t) i j
+step_keeps : (op : Op) (t : Table) → WellFormed t → Inside op → (i j : ℕ) → OneRoot t i j → OneRoot (step op t) i j
 unfolding step
 step_keeps (join a b) t well inside i j e = unites_keeps (joined_unites t well a b inside.0 inside.1) i j e
 step_keeps (look a) t well inside i j e = let kept = looked_keeps t well a inside in kept.roots i ∙ e ∙ sym (kept.roots j)
 
-run_keeps : (ops : List Op) (t : UnionFind) → WellFormed t → Within ops → (i j : ℕ) → OneRoot t i j → OneRoot (run ops t) i j
+run_keeps : (ops : List Op) (t : Table) → WellFormed t → Within ops → (i j : ℕ) → OneRoot t i j → OneRoot (run ops t) i j
 unfolding run
 run_keeps [] t well within i j e = e
 run_keeps (op ∷ ops) t well within i j e =
@@ -87,7 +87,7 @@ run_keeps (op ∷ ops) t well within i j e =
     (step_keeps op t well (within_first within) i j e)
 
 -- the ends of a link that was joined have one root
-link_joins : (ops : List Op) (t : UnionFind) → WellFormed t → Within ops → (l : Link) → Memᴰ l (links_of ops)
+link_joins : (ops : List Op) (t : Table) → WellFormed t → Within ops → (l : Link) → Memᴰ l (links_of ops)
     → OneRoot (run ops t) l.0 l.1
 unfolding run links_of step
 link_joins [] t well within l at = absurd (Memᴰ.not-nil at)
@@ -103,7 +103,7 @@ link_joins (join a b ∷ ops) t well within l at =
 link_joins (look a ∷ ops) t well within l at =
     link_joins ops (looked t a) (step_well (look a) t well (within_first within)) (within_rest within) l at
 
-chain_joins : (ops : List Op) (t : UnionFind) → WellFormed t → Within ops → {i j : ℕ} → Chain (links_of ops) i j
+chain_joins : (ops : List Op) (t : Table) → WellFormed t → Within ops → {i j : ℕ} → Chain (links_of ops) i j
     → OneRoot (run ops t) i j
 chain_joins ops t well within here = refl
 chain_joins ops t well within (forth {a = a} {b = b} m c) = link_joins ops t well within (a, b) m ∙ chain_joins ops t well within c
@@ -114,7 +114,7 @@ chain_joins ops t well within (back {a = a} {b = b} m c) = sym (link_joins ops t
 -- of the links `all`, which hold those of the operations
 module _ (all : List Link) where
   -- a join of the link l brings together only what chains with l lead to
-  join_chains : (t : UnionFind) → WellFormed t → (a b : ℕ) → a < max_polygons → b < max_polygons → Memᴰ (a, b) all
+  join_chains : (t : Table) → WellFormed t → (a b : ℕ) → a < max_polygons → b < max_polygons → Memᴰ (a, b) all
       → ((i j : ℕ) → OneRoot t i j → Chain all i j)
       → (i j : ℕ) → OneRoot (joined t a b) i j → Chain all i j
   join_chains t well a b a-inside b-inside held before i j e =
@@ -124,7 +124,7 @@ module _ (all : List Link) where
       (λ ends. chain_append (before i b ends.0) (back held (before a j (sym ends.1)))) brought)
       (unites_only (joined_unites t well a b a-inside b-inside) i j e)
 
-  only_chains : (ops : List Op) (t : UnionFind) → WellFormed t → Within ops
+  only_chains : (ops : List Op) (t : Table) → WellFormed t → Within ops
       → ((l : Link) → Memᴰ l (links_of ops) → Memᴰ l all)
       → ((i j : ℕ) → OneRoot t i j → Chain all i j)
       → (i j : ℕ) → OneRoot (run ops t) i j → Chain all i j

@@ -13,12 +13,13 @@ use lib.ListN.{get_or}
 use lib.Seq.{ext_get_or}
 use lib.Dec.{eqb}
 use borrow.Author.Tests.{eqb-true, eq-eqb}
-use Rattle.union_find.specs.declared.UnionFind.{UnionFind}
+use Rattle.union_find.specs.declared.Table.{Table}
 use Rattle.union_find.specs.Forest.{root_of}
 use Rattle.union_find.specs.Table.{OneRoot}
 use Rattle.union_find.specs.Chain.{Link, Op, Chain, after, links_of, joins, Within, BetweenPolygons}
 use Rattle.union_find.specs.Numbering.{Conducting, Least, Numbered, seen, new_below, number_at, numbers_below, conducts_in, numbers_of, count_of}
-use Rattle.union_find.proofs.Laws.NewRoots.{by_cases, First, first_from, first_unique, has_first, firsts_in_order, numbers_have_no_gap, number_none, numbers_length, numbers_read}
+use Rattle.lists.proofs.Laws.Tests.{by_cases}
+use Rattle.union_find.proofs.Laws.NewRoots.{First, first_from, first_unique, has_first, firsts_in_order, numbers_have_no_gap, number_none, numbers_length, numbers_read}
 use Rattle.union_find.proofs.Chains.{one_root_iff_chain, one_root_iff_chain_of_joins}
 
 -- ---- the walk numbers the classes of one root
@@ -206,7 +207,7 @@ module _ {n : ℕ} {conducts : ℕ → Bool} {Same Other : ℕ → ℕ → Type 
 
 module _ (conducts : List Bool) (n : ℕ) where
   -- of one root, in any table
-  pub numbered_by_roots : (t : UnionFind)
+  pub numbered_by_roots : (t : Table)
       → Numbered n (conducts_in conducts) (OneRoot t) (count_of t.parent conducts n) (numbers_of t.parent conducts n)
   numbered_by_roots t = walk_numbers (root_of t.parent) (conducts_in conducts) n
 

@@ -3,7 +3,7 @@ use Prim.Native.Nat.{ℕ, ◌≤◌}
 use mathlib.Core.Path.{◌≡◌, refl}
 use mathlib.Core.List.{List}
 use native.Mathlib.Omega.{arith}
-use Rattle.union_find.specs.declared.UnionFind.{UnionFind}
+use Rattle.union_find.specs.declared.Table.{Table}
 use Rattle.union_find.specs.Forest.{root_of, Walk, there, up}
 use Rattle.union_find.specs.Table.{WellFormed, fresh}
 use Rattle.union_find.specs.Chain.{Op, after, Within}
@@ -19,7 +19,7 @@ one_walk (there e) (up h w) = absurd (h e)
 one_walk (up h w) (there e) = absurd (h e)
 one_walk (up h w) (up g v) = let (place, steps) = one_walk w v in (place, omega arith)
 
-module _ (t : UnionFind) (well : WellFormed t) where
+module _ (t : Table) (well : WellFormed t) where
   -- the walk from x ends at the root of x
   pub lookup_walks : (x : ℕ) → (n : ℕ) × Walk t.parent x (root_of t.parent x) n
   lookup_walks = walk_to_root t.parent (well_rooted t well)

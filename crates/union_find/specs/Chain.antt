@@ -1,7 +1,7 @@
 -- Links between polygons, the chains that they make, and the table after any joins and lookups.
 use Rattle.std.specs.Prelude.{ℕ, ◌<◌, length, get_or}
 use mathlib.Core.List.{List, [], ◌∷◌, Memᴰ}
-use Rattle.union_find.specs.declared.UnionFind.{UnionFind}
+use Rattle.union_find.specs.declared.Table.{Table}
 use Rattle.union_find.specs.Forest.{max_polygons}
 use Rattle.union_find.specs.Table.{fresh, looked, joined}
 
@@ -20,17 +20,17 @@ pub data Op : Type 0 where
   look : ℕ → Op
 
 -- the table after one of them
-unfoldable pub step : Op → UnionFind → UnionFind
+unfoldable pub step : Op → Table → Table
 step (join a b) t = joined t a b
 step (look a) t = looked t a
 
 -- the table after a list of them, in their order
-unfoldable pub run : List Op → UnionFind → UnionFind
+unfoldable pub run : List Op → Table → Table
 run [] t = t
 run (op ∷ ops) t = run ops (step op t)
 
 -- the table after a list of them, from a fresh one
-abbrev pub after : List Op → UnionFind
+abbrev pub after : List Op → Table
 after ops = run ops fresh
 
 -- the links that were joined

@@ -32,7 +32,7 @@ repoint (suc n) p c r = repoint n (set p c r) (parent_of p c) r
 unfoldable pub compressed : List ℕ → ℕ → List ℕ
 compressed p x = repoint 9 p x (root_of p x)
 
--- what a lookup asks of the parents: as many as polygons, each a polygon, and from anywhere the steps end at a root
+-- what a lookup needs of the parents: as many as polygons, each a polygon, and from anywhere the steps end at a root
 pub record Rooted (p : List ℕ) : Type 0 where
   pub size : length p ≡ max_polygons
   pub inside : (x : ℕ) → x < max_polygons → parent_of p x < max_polygons

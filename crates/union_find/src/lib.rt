@@ -9,21 +9,28 @@ ghost use Rattle.union_find.specs.Chain.{Polygons, pairs_of, joins, run};
 mod forest;
 mod number;
 
-use forest::{hang, look_up, own_parents};
+use forest::own_parents;
 pub use number::number_components;
 
 // How many polygons a layout may have.
 pub const MAX_POLYGONS: usize = 512;
 
 // parent: one step up; a root is its own parent. rank: 9 at most, and less than the parent's.
-#[derive(Clone, Copy)]
-pub struct UnionFind {
+#[derive(Clone, Copy, Debug, PartialEq, Eq)]
+pub struct Table {
     pub parent: [u16; MAX_POLYGONS],
     pub rank: [u8; MAX_POLYGONS],
 }
 
+// A table that is well formed, as every table is that `new`, `find` and `union` make.
+#[derive(Clone, Copy, Debug, PartialEq, Eq)]
+pub struct UnionFind {
+    pub table: Table,
+    pub ghost well_formed: { WellFormed table },
+}
+
 // What a lookup hands back: the table with the way shortened, and the root.
-#[derive(Clone, Copy)]
+#[derive(Clone, Copy, Debug, PartialEq, Eq)]
 pub struct Found {
     pub table: UnionFind,
     pub root: usize,
@@ -32,48 +39,41 @@ pub struct Found {
 impl UnionFind {
     // A table in which every polygon is a root.
     pub fn new() -> Self
-        ensures { (result ≡ fresh) × WellFormed result }
+        ensures { result.table ≡ fresh }
     {
-        let parent = own_parents();
-        UnionFind {
-            parent,
-            rank: [0u8; MAX_POLYGONS],
-        }
+        let table = Table {
+            parent: own_parents(),
+            rank: [0; MAX_POLYGONS],
+        };
+        UnionFind { table }
     }
 
     // The root of x, and the table with every polygon on the way from x pointed at the root.
     pub fn find(mut self, x: usize) -> Found
-        requires { WellFormed self × (x < max_polygons) }
-        ensures { (result.root ≡ root_of self.parent x) × ((result.table ≡ looked self x) × Keeps self result.table) }
+        requires { x < max_polygons }
+        ensures { (result.root ≡ root_of self.table.parent x) × ((result.table.table ≡ looked self.table x) × Keeps self.table result.table.table) }
     {
-        let root = look_up(&mut self.parent, x);
+        let root = self.look_up(x);
         Found { table: self, root }
     }
 
     // The table in which the classes of a and b are one.
-    pub fn union(self, a: usize, b: usize) -> Self
-        requires { WellFormed self × ((a < max_polygons) × (b < max_polygons)) }
-        ensures { (result ≡ joined self a b) × Unites self a b result }
+    pub fn union(mut self, a: usize, b: usize) -> Self
+        requires { (a < max_polygons) × (b < max_polygons) }
+        ensures { (result.table ≡ joined self.table a b) × Unites self.table a b result.table }
     {
-        let pair = [a, b];
-        self.union_pairs(&pair)
+        self.join(a, b);
+        self
     }
 
     // The table after a union of the first two numbers of `pairs`, of the next two, and so on. A table that goes in and comes
     // back may be copied both ways: here once for the whole list, and not for each pair.
     pub fn union_pairs(mut self, pairs: &[usize]) -> Self
-        requires { WellFormed self × Polygons pairs.now }
-        ensures { (result ≡ run (joins (pairs_of pairs.now)) self) × WellFormed result }
+        requires { Polygons pairs.now }
+        ensures { result.table ≡ run (joins (pairs_of pairs.now)) self.table }
     {
-        let mut i = 0;
-        while i + 1 < pairs.len() {
-            let a = look_up(&mut self.parent, pairs[i]);
-            let b = look_up(&mut self.parent, pairs[i + 1]);
-            let rank_a = self.rank[a];
-            let rank_b = self.rank[b];
-            let risen = hang(&mut self.parent, a, b, rank_a, rank_b);
-            self.rank[a] = risen;
-            i += 2;
+        for pair in pairs.chunks_exact(2) {
+            self.join(pair[0], pair[1]);
         }
         self
     }

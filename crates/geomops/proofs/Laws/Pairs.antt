@@ -1,11 +1,12 @@
 -- Numbers paired first with second, third with fourth, and each with the next one: how many pairs there are, and what stands at a place.
 -- Assumes nothing.
-use mathlib.Core.Path.{◌≡◌, refl}
-use Prim.Native.Nat.{ℕ, zero, suc, ◌+◌, ◌*◌, ◌-◌, ◌/◌, ◌≤◌, ◌<◌}
+use mathlib.Core.Path.{◌≡◌, refl, ap}
+use Prim.Native.Nat.{ℕ, zero, suc, ◌+◌, ◌*◌, ◌/◌, ◌≤◌, ◌<◌}
 use native.Mathlib.Omega.{arith}
 use mathlib.Core.List.{List, [], ◌∷◌}
 use lib.ListN.{length, get_or, drop}
 use lib.Ieee.{Float, nan}
+use Rattle.std.specs.Simd.{first_chunks}
 use Rattle.geomops.specs.Crossings.{Interval, paired}
 use Rattle.geomops.specs.Heights.{neighbours}
 
@@ -28,6 +29,20 @@ paired_at (x ∷ y ∷ xs) (suc k) h =
     let second : 2 * suc k + 1 ≡ suc (suc (2 * k + 1)) = omega arith in
     rw (second, first) (paired_at xs k (omega arith))
 
+-- the pairs are the chunks of two
+pub length_chunks : (n : ℕ) (xs : List Float) → length (first_chunks 2 n xs) ≡ n
+length_chunks zero xs = refl
+length_chunks (suc n) xs = ap suc (length_chunks n (drop 2 xs))
+
+pub chunk_at : (xs : List Float) (n k : ℕ) → k < n → n ≤ length xs / 2 →
+    get_or (paired xs) k nowhere ≡ (get_or (get_or (first_chunks 2 n xs) k []) 0 nan, get_or (get_or (first_chunks 2 n xs) k []) 1 nan)
+unfolding paired
+chunk_at [] n k h few = absurd (omega arith)
+chunk_at (x ∷ []) n k h few = absurd (omega arith)
+chunk_at (x ∷ y ∷ xs) zero k h few = absurd (omega arith)
+chunk_at (x ∷ y ∷ xs) (suc n) zero h few = refl
+chunk_at (x ∷ y ∷ xs) (suc n) (suc k) h few = chunk_at xs n k (omega arith) (omega arith)
+
 -- fewer than two numbers make no pair
 pub paired_short : (xs : List Float) → length xs < 2 → paired xs ≡ []
 unfolding paired
@@ -42,17 +57,16 @@ paired_first [] h = absurd (omega arith)
 paired_first (x ∷ []) h = absurd (omega arith)
 paired_first (x ∷ y ∷ xs) h = refl
 
-pub length_neighbours : (ys : List Float) → length (neighbours ys) ≡ length ys - 1
+-- a number alone has no next one
+pub neighbours_short : (ys : List Float) → length ys < 2 → neighbours ys ≡ []
 unfolding neighbours
-length_neighbours [] = refl
-length_neighbours (y ∷ []) = refl
-length_neighbours (y ∷ z ∷ ys) = omega (arith, length_neighbours (z ∷ ys))
+neighbours_short [] h = refl
+neighbours_short (y ∷ []) h = refl
+neighbours_short (y ∷ z ∷ ys) h = absurd (omega arith)
 
-pub neighbours_at : (ys : List Float) (k : ℕ) → k + 1 < length ys → get_or (neighbours ys) k nowhere ≡ (get_or ys k nan, get_or ys (k + 1) nan)
+-- the first number with the next one, and those behind it
+pub neighbours_first : (ys : List Float) → 2 ≤ length ys → neighbours ys ≡ (get_or ys 0 nan, get_or ys 1 nan) ∷ neighbours (drop 1 ys)
 unfolding neighbours
-neighbours_at [] k h = absurd (omega arith)
-neighbours_at (y ∷ []) k h = absurd (omega arith)
-neighbours_at (y ∷ z ∷ ys) zero h = refl
-neighbours_at (y ∷ z ∷ ys) (suc k) h =
-    let next : suc k + 1 ≡ suc (k + 1) = omega arith in
-    rw next (neighbours_at (z ∷ ys) k (omega arith))
+neighbours_first [] h = absurd (omega arith)
+neighbours_first (y ∷ []) h = absurd (omega arith)
+neighbours_first (y ∷ z ∷ ys) h = refl

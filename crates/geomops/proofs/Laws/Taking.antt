@@ -2,11 +2,12 @@
 use mathlib.Core.Path.{◌≡◌, refl, ap, ◌∙◌}
 use Prim.Native.Nat.{◌-◌, ◌≤◌, ◌<◌}
 use native.Mathlib.Omega.{arith}
-use mathlib.Core.Bool.{true, false}
-use mathlib.Core.List.{List, [], ◌∷◌, ◌++◌, flat_map}
+use mathlib.Core.Bool.{true, false, cond}
+use mathlib.Core.List.{List, [], ◌∷◌, ◌++◌, flat_map, append-nil}
 use lib.ListN.{length, get_or, take, drop, length-drop}
 use lib.Seq.{take_all}
 use lib.Ieee.{Float, nan, lt}
+use Rattle.lists.proofs.Laws.Tests.{by_cases}
 use Rattle.lists.proofs.Laws.Each.{each_append, each_one}
 use Rattle.geomops.specs.declared.rects.Rect.{Rect}
 use Rattle.geomops.specs.declared.pieces.Operation.TheVariants.{Minus}
@@ -64,17 +65,22 @@ module _ (bs : List Float) (r : Rect) (two : 2 ≤ length bs) where
   left_apart t = left_step bs r two ∙ rw t
 
   module _ (met : is_apart (get_or bs 0 nan) (get_or bs 1 nan) r ≡ false) where
+    -- the side below comes first
+    pub left_first : lt r.x0 (get_or bs 0 nan) ≡ true →
+        pieces_of Minus (paired bs) r ≡ pieces_of Minus (paired (rest bs)) (side_below (get_or bs 0 nan) r) ++ cond (lt (get_or bs 1 nan) r.x1) (pieces_of Minus (paired (rest bs)) (side_above (get_or bs 1 nan) r)) []
+    unfolding pieces_of left less_one
+    left_first s =
+        left_step bs r two
+        ∙ by_cases (lt (get_or bs 1 nan) r.x1) (λ t. rw (met, s, t) (left_append (paired (rest bs)) (side_below (get_or bs 0 nan) r ∷ []) (side_above (get_or bs 1 nan) r ∷ [])))
+        (λ t. rw (met, s, t, append-nil))
+
     pub left_both : lt r.x0 (get_or bs 0 nan) ≡ true → lt (get_or bs 1 nan) r.x1 ≡ true →
         pieces_of Minus (paired bs) r ≡ pieces_of Minus (paired (rest bs)) (side_below (get_or bs 0 nan) r) ++ pieces_of Minus (paired (rest bs)) (side_above (get_or bs 1 nan) r)
-    unfolding pieces_of left less_one
-    left_both s t =
-        left_step bs r two
-        ∙ rw (met, s, t) (left_append (paired (rest bs)) (side_below (get_or bs 0 nan) r ∷ []) (side_above (get_or bs 1 nan) r ∷ []))
+    left_both s t = left_first s ∙ rw t
 
     pub left_below : lt r.x0 (get_or bs 0 nan) ≡ true → lt (get_or bs 1 nan) r.x1 ≡ false →
         pieces_of Minus (paired bs) r ≡ pieces_of Minus (paired (rest bs)) (side_below (get_or bs 0 nan) r)
-    unfolding pieces_of left less_one
-    left_below s t = left_step bs r two ∙ rw (met, s, t)
+    left_below s t = left_first s ∙ rw (t, append-nil)
 
     pub left_above : lt r.x0 (get_or bs 0 nan) ≡ false → lt (get_or bs 1 nan) r.x1 ≡ true →
         pieces_of Minus (paired bs) r ≡ pieces_of Minus (paired (rest bs)) (side_above (get_or bs 1 nan) r)

@@ -1,5 +1,6 @@
 -- What an accepted answer tells of the whole input: the record that everything behind the front door relies on. Each test that was
 -- passed gives its part. Assumes nothing.
+use Rattle.std.specs.Prelude.{Option, None, Ok}
 use mathlib.Core.Path.{◌≡◌, refl, sym}
 use mathlib.Core.Bool.{Bool, true, false, not}
 use mathlib.Core.List.{List, [], ◌∷◌, ◌++◌}
@@ -10,15 +11,12 @@ use borrow.Author.Tests.{ltb-true, ltb-false, eqb-true, not-false}
 use lib.Dec.{ltb, eqb}
 use lib.Ieee.{Float, nan}
 use lib.ListN.{length, get_or, get_or-eq_default}
-use Rattle.lists.specs.declared.Scan.{Scan}
-use Rattle.lists.specs.declared.Scan.TheVariants.{Clear}
 use Rattle.lists.specs.All.{AllOf}
 use Rattle.lists.specs.Scans.{first_true, clear}
 use Rattle.lists.proofs.Laws.All.{all_by}
 use Rattle.lists.proofs.Laws.Scans.{found_none}
 use Rattle.names.specs.Fields.{name_allowed}
 use Rattle.names.specs.Tables.{record_count}
-use Rattle.layout.specs.declared.door.Admission.TheVariants.{Granted}
 use Rattle.layout.specs.Bounds.{max_polygons, max_points, max_ring, max_records, connection_room, cut_coordinates, cut_rings, channel_coordinates}
 use Rattle.layout.specs.Job.{Layout, Job, CutJob}
 use Rattle.layout.specs.Rings.{total}
@@ -34,11 +32,11 @@ use Rattle.layout.proofs.Laws.Tables.{layer_table, name_map, stack_table, port_t
 
 -- ---- the polygons
 
-coordinates_allowed : (xs : List Float) → bad_coordinate xs ≡ Clear → AllOf coordinate xs
+coordinates_allowed : (xs : List Float) → bad_coordinate xs ≡ None → AllOf coordinate xs
 unfolding bad_coordinate
 coordinates_allowed xs h = all_by coordinate xs nan (λ i below. not-false _ (found_none (λ i. not (coordinate (get_or xs i nan))) 0 (length xs) h i zero-le below))
 
-rings_small : (lengths : List ℕ) → long_ring lengths ≡ Clear → (i : ℕ) → get_or lengths i 0 ≤ max_ring
+rings_small : (lengths : List ℕ) → long_ring lengths ≡ None → (i : ℕ) → get_or lengths i 0 ≤ max_ring
 unfolding long_ring
 rings_small lengths h i = go (ltb i (length lengths)) refl
   where
@@ -47,7 +45,7 @@ rings_small lengths h i = go (ltb i (length lengths)) refl
     go false e = omega (arith, get_or-eq_default lengths 0 (ltb-false i (length lengths) e))
 
 polygons : (l : Layout) → ltb max_polygons (length l.lengths) ≡ false → ltb max_points (length l.points / 2) ≡ false →
-    not (clear (long_ring l.lengths)) ≡ false → uneven_in l ≡ false → bad_coordinate l.points ≡ Clear → Polygons l
+    not (clear (long_ring l.lengths)) ≡ false → uneven_in l ≡ false → bad_coordinate l.points ≡ None → Polygons l
 unfolding uneven
 polygons l few points rings even coordinates =
     let pairs = neither (not (eqb (length l.points % 2) 0)) _ even in
@@ -68,14 +66,14 @@ polygons l few points rings even coordinates =
 
 -- ---- the theorems
 
-extraction_passed : (job : Job) (a b c : ℕ) → admit_extraction job a b c ≡ Granted →
+extraction_passed : (job : Job) (a b c : ℕ) → admit_extraction job a b c ≡ (Ok tt) →
     Passed (short_extraction (length job.layout.lengths) (port_count (length job.port_names) (length job.port_points)) a b c)
     (over_extraction job) (uneven_in job.layout) (bad_coordinates job.layout.points job.port_points)
     (bad_record job.layout.layer_numbers job.layout.layer_names job.conducting job.via job.stack job.port_names (length job.port_points))
 unfolding admit_extraction
 extraction_passed job a b c h = passed _ _ _ _ _ h
 
-marked_passed : (job : CutJob) (short : Scan) → admit_marked job short ≡ Granted →
+marked_passed : (job : CutJob) (short : Option ℕ) → admit_marked job short ≡ (Ok tt) →
     Passed short (over_cut job.layout) (uneven_in job.layout) (bad_coordinate job.layout.points)
     (bad_mark job.layout.layer_numbers job.layout.layer_names job.gate job.active)
 unfolding admit_marked
@@ -83,14 +81,14 @@ marked_passed job short h = passed _ _ _ _ _ h
 
 -- no table has a record that is not allowed
 record RecordsClear (job : Job) : Type 0 where
-  pub layers : bad_layer job.layout.layer_numbers job.layout.layer_names ≡ Clear
-  pub conducting : bad_pair job.conducting ≡ Clear
-  pub via : bad_pair job.via ≡ Clear
-  pub stack : bad_stack job.stack ≡ Clear
-  pub ports : bad_port job.port_names (length job.port_points) ≡ Clear
+  pub layers : bad_layer job.layout.layer_numbers job.layout.layer_names ≡ None
+  pub conducting : bad_pair job.conducting ≡ None
+  pub via : bad_pair job.via ≡ None
+  pub stack : bad_stack job.stack ≡ None
+  pub ports : bad_port job.port_names (length job.port_points) ≡ None
 
 records_clear : (job : Job) →
-    bad_record job.layout.layer_numbers job.layout.layer_names job.conducting job.via job.stack job.port_names (length job.port_points) ≡ Clear →
+    bad_record job.layout.layer_numbers job.layout.layer_names job.conducting job.via job.stack job.port_names (length job.port_points) ≡ None →
     RecordsClear job
 unfolding bad_record
 records_clear job h =
@@ -115,7 +113,7 @@ records_clear job h =
     }
 
 -- an accepted extraction
-pub accepted : (job : Job) (a b c : ℕ) → admit_extraction job a b c ≡ Granted → Accepted job
+pub accepted : (job : Job) (a b c : ℕ) → admit_extraction job a b c ≡ (Ok tt) → Accepted job
 unfolding over_both bad_coordinates
 accepted job a b c h =
     let p = extraction_passed job a b c h in
@@ -141,7 +139,7 @@ accepted job a b c h =
     }
 
 -- its lent lists are long enough
-pub room : (job : Job) (a b c : ℕ) → admit_extraction job a b c ≡ Granted → Room job a b c
+pub room : (job : Job) (a b c : ℕ) → admit_extraction job a b c ≡ (Ok tt) → Room job a b c
 unfolding short_extraction
 room job a b c h =
     let ports = port_count (length job.port_names) (length job.port_points) in
@@ -153,7 +151,7 @@ room job a b c h =
     }
 
 -- an accepted cut, or accepted channel regions
-pub accepted_cut : (job : CutJob) (short : Scan) → admit_marked job short ≡ Granted → AcceptedCut job
+pub accepted_cut : (job : CutJob) (short : Option ℕ) → admit_marked job short ≡ (Ok tt) → AcceptedCut job
 unfolding over_layout bad_mark
 accepted_cut job short h =
     let p = marked_passed job short h in
@@ -170,7 +168,7 @@ accepted_cut job short h =
     }
 
 -- the cut's lent lists are long enough
-pub cut_room : (job : CutJob) (a b c : ℕ) → admit_cut job a b c ≡ Granted → CutRoom a b c
+pub cut_room : (job : CutJob) (a b c : ℕ) → admit_cut job a b c ≡ (Ok tt) → CutRoom a b c
 unfolding short_cut
 cut_room job a b c h =
     let tests = none_true 0 (ltb a cut_coordinates ∷ ltb b cut_rings ∷ ltb c cut_rings ∷ []) (marked_passed job (short_cut a b c) h).first in
@@ -181,6 +179,6 @@ cut_room job a b c h =
     }
 
 -- the channel regions' lent list is long enough
-pub channel_room : (job : CutJob) (a : ℕ) → admit_channel job a ≡ Granted → channel_coordinates ≤ a
+pub channel_room : (job : CutJob) (a : ℕ) → admit_channel job a ≡ (Ok tt) → channel_coordinates ≤ a
 unfolding short_channel
 channel_room job a h = ltb-false a channel_coordinates (none_true 0 (ltb a channel_coordinates ∷ []) (marked_passed job (short_channel a) h).first 0)

@@ -66,7 +66,7 @@ module _ {lengths before list : List ℕ} {at i : ℕ} (s : Starting lengths bef
     front = starting_store (omega (arith, s.long));
   }
 
-  pub starting_ends : length lengths < length before → length lengths ≤ i → Front (starts_of lengths) before (set list i at) (length lengths + 1)
+  pub starting_ends : length lengths < length before → length lengths ≤ i → Front (starts_of lengths) before (set list (length lengths) at) (length lengths + 1)
   starting_ends room h =
       let all : i ≡ length lengths = omega (arith, s.passed) in
       rw (← all) (starting_store (omega (arith, s.long, s.passed)))

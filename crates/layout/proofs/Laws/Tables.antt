@@ -1,5 +1,6 @@
 -- What the search through each table tells of it where it found nothing: every record is wholly there, with allowed names and a key of its
 -- own. The last record that is counted gives the length. Assumes nothing.
+use Rattle.std.specs.Prelude.{Some, None}
 use mathlib.Core.Path.{◌≡◌, refl, sym, ◌∙◌}
 use mathlib.Core.Bool.{true, not}
 use mathlib.Core.List.{List}
@@ -10,7 +11,6 @@ use borrow.Author.Tests.{ltb-true, leb-true, not-false}
 use lib.Dec.{ltb}
 use lib.IntN.{ℤ, pos}
 use lib.ListN.{length, get_or}
-use Rattle.lists.specs.declared.Scan.TheVariants.{Clear, At}
 use Rattle.lists.proofs.Laws.Scans.{found_none}
 use Rattle.names.specs.Fields.{name_allowed, name_or_absent, field_at}
 use Rattle.names.specs.Tables.{record_count, look_up, layer_record}
@@ -30,7 +30,7 @@ record LayerRecord (numbers : List ℤ) (names : List ℕ) (k : ℕ) : Type 0 wh
   pub there : k < length numbers
   pub name : name_allowed (field_at names (k * 32)) ≡ true
   pub whole : k * 32 + 32 ≤ length names
-  pub first : layer_record numbers (get_or numbers k (pos 0)) ≡ At k
+  pub first : layer_record numbers (get_or numbers k (pos 0)) ≡ Some k
 
 layer_record_lem : (numbers : List ℤ) (names : List ℕ) (k : ℕ) → layer_allowed numbers names k ≡ true → LayerRecord numbers names k
 unfolding layer_named layer_allowed
@@ -44,7 +44,7 @@ layer_record_lem numbers names k h =
       first = found_itself k _ outer.1;
     }
 
-pub layer_table : (numbers : List ℤ) (names : List ℕ) → layer_count (length numbers) (length names) ≤ max_records → bad_layer numbers names ≡ Clear →
+pub layer_table : (numbers : List ℤ) (names : List ℕ) → layer_count (length numbers) (length names) ≤ max_records → bad_layer numbers names ≡ None →
     LayerTable numbers names
 unfolding bad_layer
 layer_table numbers names few h = record {
@@ -96,7 +96,7 @@ pair_table table few each = record {
     size zero e = omega arith
     size (suc m) e = omega (arith, pair_there table m (each m (omega arith)))
 
-pub name_map : (table : List ℕ) → record_count (length table) 64 ≤ max_records → bad_pair table ≡ Clear → NameMap table
+pub name_map : (table : List ℕ) → record_count (length table) 64 ≤ max_records → bad_pair table ≡ None → NameMap table
 unfolding bad_pair pair_allowed
 name_map table few h = record {
   pairs = pairs;
@@ -125,7 +125,7 @@ stack_record table k h =
     let inner = both (name_or_absent (field_at table (k * 96 + 32))) _ outer.1 in
     record { name = outer.0; bottom = inner.0; top = inner.1 }
 
-pub stack_table : (table : List ℕ) → record_count (length table) 96 ≤ max_records → bad_stack table ≡ Clear → StackTable table
+pub stack_table : (table : List ℕ) → record_count (length table) 96 ≤ max_records → bad_stack table ≡ None → StackTable table
 unfolding bad_stack
 stack_table table few h = record {
   few = omega arith;
@@ -148,7 +148,7 @@ pub record PortTable (names : List ℕ) (coordinates : ℕ) : Type 0 where
   pub pairs : PairTable names
   pub points : coordinates ≡ length names / 64 * 2
 
-pub port_table : (names : List ℕ) (coordinates : ℕ) → port_count (length names) coordinates ≤ max_records → bad_port names coordinates ≡ Clear → PortTable names coordinates
+pub port_table : (names : List ℕ) (coordinates : ℕ) → port_count (length names) coordinates ≤ max_records → bad_port names coordinates ≡ None → PortTable names coordinates
 unfolding bad_port port_allowed
 port_table names coordinates few h = record {
   pairs = pair_table names (omega (arith, named)) (λ k below. (each k (omega (arith, named))).0);

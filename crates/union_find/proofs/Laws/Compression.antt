@@ -128,9 +128,6 @@ module _ (p : List ℕ) (rooted : Rooted p) (x : ℕ) (inside : x < max_polygons
   unfolding compressed
   compressed_keeps Q step q = repoint_keeps Q step 9 p x (root_of p x) rooted inside refl q
 
-  pub compressed_rooted : Rooted (compressed p x)
-  compressed_rooted = compressed_keeps Rooted (λ q c r h _. pointed_rooted q r c h) rooted
-
   -- every polygon has the root that it had
   pub compressed_roots : (y : ℕ) → root_of (compressed p x) y ≡ root_of p y
   compressed_roots =

@@ -1,29 +1,23 @@
 -- Lookups in a forest: what a list of parents says, how climbing ends at the root, and how many steps are left.
-use Prim.Native.Nat.{ℕ, zero, suc, ◌+◌, ◌<◌}
+use Prim.Native.Nat.{ℕ, zero, suc, ◌<◌}
 use mathlib.Core.Path.{◌≡◌, refl, sym, ◌∙◌, ap}
 use mathlib.Core.Logic.{◌≢◌}
 use mathlib.Core.Bool.{Bool, true, false}
-use mathlib.Core.List.{List, [], ◌∷◌, ◌++◌}
+use mathlib.Core.List.{List, [], ◌∷◌}
 use native.Mathlib.Decide.{ℕ_discrete, dec_lt}
 use native.Mathlib.Omega.{arith}
-use native.Mathlib.Numerals.{add-one}
 use lib.Dec.{eqb}
 use lib.ListN.{length, get_or, set, length-append, get_or-append, get_or-eq_default}
-use lib.Seq.{get_or-set_same, get_or-set_other, set-get_or, get_or_at}
+use lib.Seq.{ext_get_or, get_or-set_same, get_or-set_other, set-get_or, get_or_at}
 use borrow.Author.Tests.{eq-eqb, ne_eqb}
+use Rattle.std.proofs.lemmas.List.{get_or_default}
 use Rattle.union_find.specs.Forest.{max_polygons, parent_of, climb, root_of, Walk, there, up, Rooted, count_up}
 
 -- ---- one list of parents
 
--- inside the list the default does not matter
-get_d_default : (l : List ℕ) (i d e : ℕ) → i < length l → get_or l i d ≡ get_or l i e
-get_d_default [] i d e h = absurd (omega arith)
-get_d_default (x ∷ l) zero d e h = refl
-get_d_default (x ∷ l) (suc i) d e h = get_d_default l i d e (omega arith)
-
 pub parent_read : (p : List ℕ) (x : ℕ) → x < length p → get_or p x 0 ≡ parent_of p x
 unfolding parent_of
-parent_read p x h = get_d_default p x 0 x h
+parent_read p x h = get_or_default p x 0 x h
 
 pub parent_set_same : (p : List ℕ) (c r : ℕ) → c < length p → parent_of (set p c r) c ≡ r
 unfolding parent_of
@@ -38,10 +32,6 @@ unfolding parent_of
 set_same_parent p r e = ap (set p r) (sym e) ∙ set-get_or p r r
 
 -- ---- every polygon its own parent
-
-pub count_up_more : (n : ℕ) → count_up (n + 1) ≡ count_up n ++ (n ∷ [])
-unfolding count_up
-count_up_more n = rw add-one
 
 pub count_up_length : (n : ℕ) → length (count_up n) ≡ n
 unfolding count_up
@@ -60,6 +50,14 @@ count_up_parent (suc n) x =
             | no e ↦ get_or-eq_default (count_up (suc n)) x (omega (arith, count_up_length (suc n)))
           ]
     ]
+
+-- the only list of n numbers that has each at its own place
+pub count_up_only : (l : List ℕ) (n : ℕ) → length l ≡ n → ((k : ℕ) → k < n → get_or l k 0 ≡ k) → l ≡ count_up n
+count_up_only l n size each =
+    ext_get_or 0 l (count_up n) (size ∙ sym (count_up_length n))
+    (λ k h.
+    let below : k < n = omega (arith, size) in
+    each k below ∙ sym (parent_read (count_up n) k (omega (arith, count_up_length n)) ∙ count_up_parent n k))
 
 -- ---- climbing
 

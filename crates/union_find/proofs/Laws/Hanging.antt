@@ -10,7 +10,7 @@ use native.Mathlib.Numerals.{add-one}
 use lib.ListN.{length, set, length-set}
 use lib.Seq.{get_or-set_same, get_or-set_other, set-get_or}
 use borrow.Author.Tests.{eq-eqb, ne_eqb, lt-ltb, le-ltb}
-use Rattle.union_find.specs.declared.UnionFind.{UnionFind}
+use Rattle.union_find.specs.declared.Table.{Table}
 use Rattle.union_find.specs.Forest.{max_polygons, parent_of, root_of, Rooted}
 use Rattle.union_find.specs.Table.{rank_of, members_below, WellFormed, linked}
 use Rattle.union_find.proofs.Laws.Forest.{parent_set_same, parent_set_other, root_at_root, root_step, along}
@@ -19,7 +19,7 @@ use Rattle.union_find.proofs.Laws.Ranks.{ranks_reach, well_rooted, members_apart
 -- ---- the root lo is hung under the root hi
 
 -- the ranks become k: only that of hi changes, and the two classes have the polygons for it
-record Hangs (t : UnionFind) (k : List ℕ) (lo hi : ℕ) : Type 0 where
+record Hangs (t : Table) (k : List ℕ) (lo hi : ℕ) : Type 0 where
   lo_inside : lo < max_polygons
   hi_inside : hi < max_polygons
   lo_root : parent_of t.parent lo ≡ lo
@@ -31,7 +31,7 @@ record Hangs (t : UnionFind) (k : List ℕ) (lo hi : ℕ) : Type 0 where
   above : rank_of t.rank lo < rank_of k hi
   enough : 2 ^ rank_of k hi ≤ members_below max_polygons t.parent lo + members_below max_polygons t.parent hi
 
-module _ (t : UnionFind) (well : WellFormed t) (k : List ℕ) (lo hi : ℕ) (hangs : Hangs t k lo hi) where
+module _ (t : Table) (well : WellFormed t) (k : List ℕ) (lo hi : ℕ) (hangs : Hangs t k lo hi) where
   -- the parents as they were, and as they are
   abbrev p : List ℕ
   p = t.parent
@@ -122,15 +122,15 @@ module _ (t : UnionFind) (well : WellFormed t) (k : List ℕ) (lo hi : ℕ) (han
 -- ---- two roots are joined
 
 -- every root is as `moved` says, so the classes of a and b are one
-pub record Merges (t : UnionFind) (a b : ℕ) (u : UnionFind) : Type 0 where
+pub record Merges (t : Table) (a b : ℕ) (u : Table) : Type 0 where
   pub well : WellFormed u
   pub roots : (x : ℕ) → root_of u.parent x ≡ moved a b (root_of t.parent x)
 
-hanging : (t : UnionFind) → WellFormed t → (k : List ℕ) (lo hi : ℕ) → Hangs t k lo hi
+hanging : (t : Table) → WellFormed t → (k : List ℕ) (lo hi : ℕ) → Hangs t k lo hi
     → Merges t lo hi (record { parent = set t.parent lo hi; rank = k })
 hanging t well k lo hi hangs = record { well = hang_well t well k lo hi hangs; roots = hang_roots t well k lo hi hangs }
 
-module _ (t : UnionFind) (well : WellFormed t) (a b : ℕ) (a-inside : a < max_polygons) (b-inside : b < max_polygons)
+module _ (t : Table) (well : WellFormed t) (a b : ℕ) (a-inside : a < max_polygons) (b-inside : b < max_polygons)
     (a-root : parent_of t.parent a ≡ a) (b-root : parent_of t.parent b ≡ b) (apart : a ≢ b) where
   lower_under : rank_of t.rank a < rank_of t.rank b → Hangs t t.rank a b
   lower_under lower =
@@ -167,7 +167,7 @@ module _ (t : UnionFind) (well : WellFormed t) (a b : ℕ) (a-inside : a < max_p
       rose = get_or-set_same t.rank b (rank_of t.rank b + 1) 0 (omega (arith, well.ranks))
 
 -- what `linked` is, by the tests that pick it
-module _ (t : UnionFind) (a b : ℕ) where
+module _ (t : Table) (a b : ℕ) where
   abbrev ka : ℕ
   ka = rank_of t.rank a
 
@@ -175,7 +175,7 @@ module _ (t : UnionFind) (a b : ℕ) where
   kb = rank_of t.rank b
 
   -- a rank that is written as it was
-  as_before : (q : List ℕ) → ◌≡◌ {A = UnionFind} (record { parent = q; rank = set t.rank a ka }) (record { parent = q; rank = t.rank })
+  as_before : (q : List ℕ) → ◌≡◌ {A = Table} (record { parent = q; rank = set t.rank a ka }) (record { parent = q; rank = t.rank })
   as_before q = ap (λ (k : List ℕ). record { parent = q; rank = k }) (set-get_or t.rank a 0)
 
   linked_same : a ≡ b → linked t a b ≡ t
@@ -195,7 +195,7 @@ module _ (t : UnionFind) (a b : ℕ) where
   unfolding linked
   linked_tie apart tie = rw (ne_eqb a b apart, le-ltb ka kb (omega arith), eq-eqb ka kb tie)
 
-module _ (t : UnionFind) (well : WellFormed t) (a b : ℕ) (a-inside : a < max_polygons) (b-inside : b < max_polygons)
+module _ (t : Table) (well : WellFormed t) (a b : ℕ) (a-inside : a < max_polygons) (b-inside : b < max_polygons)
     (a-root : parent_of t.parent a ≡ a) (b-root : parent_of t.parent b ≡ b) where
   -- one of the two goes under the other
   pub linked_merges : Merges t a b (linked t a b) ⊎ Merges t b a (linked t a b)

@@ -2,13 +2,11 @@
 use Prim.Native.Nat.{ℕ, ◌<◌}
 use mathlib.Core.Path.{◌≡◌, refl, sym, ◌∙◌, ap}
 use mathlib.Core.Logic.{◌≢◌, inl, inr, ⊎_elim}
-use mathlib.Core.List.{List}
 use native.Mathlib.Decide.{ℕ_discrete}
-use lib.ListN.{set}
 use borrow.Author.Tests.{eq-eqb, ne_eqb}
-use Rattle.union_find.specs.declared.UnionFind.{UnionFind}
-use Rattle.union_find.specs.Forest.{max_polygons, parent_of, root_of, compressed}
-use Rattle.union_find.specs.Table.{rank_of, WellFormed, looked, hung, risen, linked, joined, OneRoot, Keeps, Unites}
+use Rattle.union_find.specs.declared.Table.{Table}
+use Rattle.union_find.specs.Forest.{max_polygons, parent_of, root_of}
+use Rattle.union_find.specs.Table.{WellFormed, looked, linked, joined, OneRoot, Keeps, Unites}
 use Rattle.union_find.proofs.Laws.Forest.{root_inside}
 use Rattle.union_find.proofs.Laws.Ranks.{well_rooted, moved, looked_keeps}
 use Rattle.union_find.proofs.Laws.Hanging.{Merges, linked_merges}
@@ -25,7 +23,7 @@ moved_hi lo hi = elim (ℕ_discrete hi lo) [ yes e ↦ rw e (moved_lo lo lo) | n
 moved_other : (lo hi r : ℕ) → r ≢ lo → moved lo hi r ≡ r
 moved_other lo hi r h = rw (ne_eqb r lo h)
 
-module _ (t u : UnionFind) (a b : ℕ) where
+module _ (t u : Table) (a b : ℕ) where
   -- what `Merges` says at the roots of a and b is what `Unites` says of a and b
   merges_unites : Merges t (root_of t.parent a) (root_of t.parent b) u → Unites t a b u
   merges_unites m =
@@ -49,7 +47,7 @@ module _ (t u : UnionFind) (a b : ℕ) where
       a_to_b = to_b a (moved_lo ra rb)
 
 -- a union the other way round is the same
-unites_swapped : (t u : UnionFind) (a b : ℕ) → Unites t b a u → Unites t a b u
+unites_swapped : (t u : Table) (a b : ℕ) → Unites t b a u → Unites t a b u
 unites_swapped t u a b m =
     record {
       well = m.well;
@@ -63,7 +61,7 @@ unites_swapped t u a b m =
 
 -- ---- a join
 
-module _ (t : UnionFind) (well : WellFormed t) (a b : ℕ) (a-inside : a < max_polygons) (b-inside : b < max_polygons) where
+module _ (t : Table) (well : WellFormed t) (a b : ℕ) (a-inside : a < max_polygons) (b-inside : b < max_polygons) where
   first : Keeps t (looked t a)
   first = looked_keeps t well a a-inside
 
@@ -77,7 +75,7 @@ module _ (t : UnionFind) (well : WellFormed t) (a b : ℕ) (a-inside : a < max_p
   still_root : (x : ℕ) → parent_of (looked (looked t a) b).parent (root_of t.parent x) ≡ root_of t.parent x
   still_root x = rw (both_kept x) at ((well_rooted (looked (looked t a) b) second.well).reached x)
 
-  from_looked : (lo hi : ℕ) (u : UnionFind) → Merges (looked (looked t a) b) lo hi u → Merges t lo hi u
+  from_looked : (lo hi : ℕ) (u : Table) → Merges (looked (looked t a) b) lo hi u → Merges t lo hi u
   from_looked lo hi u m = record { well = m.well; roots = λ x. m.roots x ∙ ap (moved lo hi) (both_kept x) }
 
   -- a join makes one class of two, and the table stays well formed
@@ -93,12 +91,9 @@ module _ (t : UnionFind) (well : WellFormed t) (a b : ℕ) (a-inside : a < max_p
       (still_root b))
 
   -- the join by its steps: two lookups, and then the roots
-  pub joined_by_steps : (ra rb : ℕ) (p₁ p₂ p₃ : List ℕ) (k : ℕ)
-      → ra ≡ root_of t.parent a → p₁ ≡ compressed t.parent a
-      → rb ≡ root_of p₁ b → p₂ ≡ compressed p₁ b
-      → k ≡ risen ra rb (rank_of t.rank ra) (rank_of t.rank rb)
-      → p₃ ≡ hung p₂ ra rb (rank_of t.rank ra) (rank_of t.rank rb)
-      → ◌≡◌ {A = UnionFind} (record { parent = p₃; rank = set t.rank ra k }) (joined t a b)
-  unfolding joined linked
-  joined_by_steps ra rb p₁ p₂ p₃ k at_a one at_b two rise three =
-      rw (three, rise, two, at_b, one, first.roots b, at_a) refl
+  pub joined_by_steps : (t₁ t₂ u : Table) (ra rb : ℕ)
+      → ra ≡ root_of t.parent a → t₁ ≡ looked t a
+      → rb ≡ root_of t₁.parent b → t₂ ≡ looked t₁ b
+      → u ≡ linked t₂ ra rb → u ≡ joined t a b
+  unfolding joined
+  joined_by_steps t₁ t₂ u ra rb at_a one at_b two under = rw (under, two, at_b, one, first.roots b, at_a) refl

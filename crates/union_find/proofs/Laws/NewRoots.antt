@@ -1,8 +1,8 @@
 -- Numbers by first appearance: a root keeps the number that it got where it was new, and new roots are counted.
 use Prim.Native.Nat.{ℕ, zero, suc, ◌+◌, ◌<◌, ◌≤◌, zero-le}
 use mathlib.Core.Path.{◌≡◌, refl, sym, ◌∙◌}
-use mathlib.Core.Logic.{◌≢◌}
-use mathlib.Core.Bool.{Bool, true, false, not, ◌&&◌, ◌||◌, true≢false, or-true}
+use mathlib.Core.Logic.{◌≢◌, ⊎_elim}
+use mathlib.Core.Bool.{Bool, true, false, not, ◌&&◌, true≢false, or-true}
 use mathlib.Core.List.{[], ◌∷◌, ◌++◌}
 use native.Mathlib.Decide.{ℕ_discrete, dec_lt}
 use native.Mathlib.Omega.{arith}
@@ -13,20 +13,10 @@ use lib.ListN.{length, get_or, length-append, get_or-append}
 use lib.Seq.{get_or_at}
 use lib.Dec.{eqb}
 use borrow.Author.Tests.{eq-eqb, ne_eqb, eqb-true, not-true}
+use Rattle.std.proofs.lemmas.Bool.{and_parts, or_cases}
 use Rattle.lists.specs.Marks.{empty_number}
+use Rattle.lists.proofs.Laws.Tests.{by_cases}
 use Rattle.union_find.specs.Numbering.{seen, is_new, new_below, number_for, number_at, numbers_below}
-
-pub by_cases : {P : Type 0} (b : Bool) → (b ≡ true → P) → (b ≡ false → P) → P
-by_cases true t f = t refl
-by_cases false t f = f refl
-
-both_true : (a b : Bool) → (a && b) ≡ true → (a ≡ true) × (b ≡ true)
-both_true true b e = (refl, e)
-both_true false b e = absurd (true≢false (sym e))
-
-either_true : {P : Type 0} (a b : Bool) → (a || b) ≡ true → (a ≡ true → P) → (b ≡ true → P) → P
-either_true true b e f g = f refl
-either_true false b e f g = g e
 
 module _ (root : ℕ → ℕ) (conducts : ℕ → Bool) where
   -- ---- what has been seen
@@ -45,9 +35,8 @@ module _ (root : ℕ → ℕ) (conducts : ℕ → Bool) where
       → (conducts n ≡ true) × (root n ≡ r)
   unfolding seen
   seen_here r n before e =
-      either_true (conducts n && eqb (root n) r) (seen root conducts r n) e
-      (λ f. let (k, g) = both_true (conducts n) (eqb (root n) r) f in (k, eqb-true (root n) r g))
-      (λ f. absurd (true≢false (sym f ∙ before)))
+      ⊎_elim (λ f. let (k, g) = and_parts (conducts n) (eqb (root n) r) f in (k, eqb-true (root n) r g))
+      (λ f. absurd (true≢false (sym f ∙ before))) (or_cases (conducts n && eqb (root n) r) (seen root conducts r n) e)
 
   pub seen_more : (r n : ℕ) → seen root conducts r n ≡ true → seen root conducts r (suc n) ≡ true
   unfolding seen
@@ -79,12 +68,6 @@ module _ (root : ℕ → ℕ) (conducts : ℕ → Bool) where
   new_below_at_most zero = zero-le
   new_below_at_most (suc n) =
       by_cases (is_new root conducts n) (λ e. simp e (omega (arith, new_below_at_most n))) (λ e. simp e (omega (arith, new_below_at_most n)))
-
-  pub number_at_most : (r n : ℕ) → number_for root conducts r n ≤ n
-  unfolding number_for
-  number_at_most r zero = zero-le
-  number_at_most r (suc n) =
-      by_cases (seen root conducts r (suc n)) (λ e. simp e (omega (arith, number_at_most r n))) (λ e. simp e (new_below_at_most (suc n)))
 
   new_below_grows : (m n : ℕ) → m ≤ n → new_below root conducts m ≤ new_below root conducts n
   unfolding new_below
@@ -177,7 +160,7 @@ module _ (root : ℕ → ℕ) (conducts : ℕ → Bool) where
       at_new : is_new root conducts n ≡ true → ¬ (k < new_below root conducts n) → k < 1 + new_below root conducts n
           → (i : ℕ) × (i < suc n) × (conducts i ≡ true) × (number_at root conducts i ≡ k)
       at_new new g h =
-          let (conducting, unseen) = both_true (conducts n) (not (seen root conducts (root n) n)) new in
+          let (conducting, unseen) = and_parts (conducts n) (not (seen root conducts (root n) n)) new in
           (n, omega arith, conducting, number_new n conducting (not-true (seen root conducts (root n) n) unseen) ∙ omega arith)
 
   -- ---- the list

@@ -11,7 +11,7 @@ use native.Mathlib.Nat.{le_trans, le_of_lt}
 use lib.Pow.{pow_mono}
 use lib.Dec.{eqb}
 use borrow.Author.Tests.{eq-eqb, ne_eqb}
-use Rattle.union_find.specs.declared.UnionFind.{UnionFind}
+use Rattle.union_find.specs.declared.Table.{Table}
 use Rattle.union_find.specs.Forest.{max_polygons, parent_of, climb, root_of, Walk, there, up, Rooted}
 use Rattle.union_find.specs.Table.{rank_of, one, members_below, WellFormed, looked, Keeps}
 use Rattle.union_find.proofs.Laws.Forest.{climb_at_root, root_at_root, root_step, along}
@@ -34,7 +34,7 @@ module _ (p k : List ℕ) (rises : (x : ℕ) → parent_of p x ≢ x → rank_of
   unfolding root_of
   ranks_reach x = climb_by_rank 9 x (omega arith)
 
-module _ (t : UnionFind) (well : WellFormed t) where
+module _ (t : Table) (well : WellFormed t) where
   pub well_rooted : Rooted t.parent
   well_rooted =
       record { size = well.parents; inside = well.inside; reached = ranks_reach t.parent t.rank well.rises well.low }
@@ -126,10 +126,10 @@ log_512 n h = elim (dec_le n 9) [ yes l ↦ l | no l ↦ absurd (over (pow_mono 
 -- ---- a lookup
 
 -- the table with other parents
-abbrev with_parents : UnionFind → List ℕ → UnionFind
+abbrev with_parents : Table → List ℕ → Table
 with_parents t q = record { parent = q; rank = t.rank }
 
-module _ (t : UnionFind) (well : WellFormed t) (c : ℕ) (inside : c < max_polygons) where
+module _ (t : Table) (well : WellFormed t) (c : ℕ) (inside : c < max_polygons) where
   rooted : Rooted t.parent
   rooted = well_rooted t well
 
@@ -155,7 +155,7 @@ module _ (t : UnionFind) (well : WellFormed t) (c : ℕ) (inside : c < max_polyg
         | no f ↦ rw (at_other x f) (well.rises x (λ e. h (at_other x f ∙ e)))
       ]
 
-  pointed_well : WellFormed (with_parents t (pointed t.parent c))
+  pub pointed_well : WellFormed (with_parents t (pointed t.parent c))
   pointed_well =
       record {
         parents = (pointed_rooted t.parent rooted c inside).size;
@@ -169,7 +169,7 @@ module _ (t : UnionFind) (well : WellFormed t) (c : ℕ) (inside : c < max_polyg
       }
 
 -- a lookup keeps every root and every rank, and the table stays well formed
-pub looked_keeps : (t : UnionFind) → WellFormed t → (x : ℕ) → x < max_polygons → Keeps t (looked t x)
+pub looked_keeps : (t : Table) → WellFormed t → (x : ℕ) → x < max_polygons → Keeps t (looked t x)
 looked_keeps t well x inside =
     record {
       well =

@@ -1,11 +1,17 @@
--- `geomops::edge::counted` meets its contract: `||` as the code has it, of what `both` ensures. Assumes nothing.
+-- `geomops::edge::counted` meets its contract: `||` as the code has it. Assumes nothing.
+use Rattle.std.proofs.Common.{arith}
+use Rattle.std.proofs.lemmas.Grind.{common_steps}
 use Rattle.geomops.specs.Edge.{counted_sides}
 use Rattle.geomops.proofs.edge.counted.Goals as goal
 
-pub returns-then-both : goal.returns-then-both
+pub returns-then-b : goal.returns-then-b
 unfolding counted_sides
-returns-then-both c = rw (← c.both.ensures, c.if-both.true)
+returns-then-b c = grind (arith, common_steps)
 
-pub returns-else-both : goal.returns-else-both
+pub returns-then-b-2 : goal.returns-then-b-2
 unfolding counted_sides
-returns-else-both c = rw (← c.both.ensures, ← c.both-else-both.ensures, c.if-both.false)
+returns-then-b-2 c = grind (arith, common_steps)
+
+pub returns-else-b-2 : goal.returns-else-b-2
+unfolding counted_sides
+returns-else-b-2 c = grind (arith, common_steps)

@@ -4,14 +4,14 @@ use borrow.Author.Tests.{ne_eqb}
 use Rattle.layout.proofs.Laws.Counting.{adding_start, adding_stops, adding_on, adding_ends}
 use Rattle.layout.proofs.counts.adds_up.Goals as goal
 
-pub loop-i-init : goal.loop-i-init
-loop-i-init c = adding_start _ _
+pub loop-ring-init : goal.loop-ring-init
+loop-ring-init c = adding_start _ _
 
-pub returns-then-left-ring : goal.returns-then-left-ring
-returns-then-left-ring c = sym (ne_eqb _ _ (adding_stops c.loop-i.invariant c.loop-i-test.true c.if-left-ring.true))
+pub returns-in_default : goal.returns-in_default
+returns-in_default c = sym (ne_eqb _ _ (adding_stops c.loop-ring.invariant c.loop-ring-test.true (omega (arith, c.in_default.ensures))))
 
-pub loop-i-preserved : goal.loop-i-preserved
-loop-i-preserved c = adding_on c.loop-i.invariant c.loop-i-test.true (omega arith)
+pub loop-ring-preserved : goal.loop-ring-preserved
+loop-ring-preserved c = adding_on c.loop-ring.invariant c.loop-ring-test.true (omega (arith, c.in-Some.ensures))
 
 pub returns : goal.returns
-returns c = adding_ends c.loop-i.invariant c.loop-i-test.false
+returns c = adding_ends c.loop-ring.invariant (omega arith)

@@ -1,22 +1,11 @@
-use mathlib.Core.Path.{sym, ◌∙◌}
-use Rattle.lists.proofs.Laws.Scans.{scan_start, scan_stops, scan_goes_on, scan_ends}
-use Rattle.lists.proofs.Laws.Tests.{not_of_true, not_of_false}
-use native.Mathlib.Omega.{arith}
-use Rattle.layout.specs.Records.{bad_port}
+use Rattle.std.proofs.Common.{rules}
+use Rattle.std.specs.Prelude.{not}
+use borrow.Author.Tests.{tests}
+use Rattle.lists.proofs.Laws.Scans.{range_searched}
+use Rattle.layout.specs.Records.{bad_port, port_allowed}
 use Rattle.layout.proofs.records.bad_port.Goals as goal
-
-pub loop-k-init : goal.loop-k-init
-loop-k-init c = scan_start _ _ _
-
-pub returns-then-not-port_allowed : goal.returns-then-not-port_allowed
-unfolding bad_port
-returns-then-not-port_allowed c =
-    sym (scan_stops c.loop-k.invariant (omega arith) (not_of_false (sym c.port_allowed.ensures ∙ c.if-not-port_allowed.true)))
-
-pub loop-k-preserved : goal.loop-k-preserved
-loop-k-preserved c =
-    scan_goes_on c.loop-k.invariant (omega arith) (not_of_true (sym c.port_allowed.ensures ∙ c.if-not-port_allowed.false))
 
 pub returns : goal.returns
 unfolding bad_port
-returns c = sym (scan_ends c.loop-k.invariant (omega arith))
+returns c =
+    rw (← c.port_count.ensures) (range_searched (λ k. not (port_allowed c.args.names.now c.args.coordinates k)) c.port_count.result _ _ c.find.result c.find.ensures.ran (λ x b q k. search (rules, tests)))

@@ -8,8 +8,8 @@ use Rattle.layout.proofs.rings.ring.Goals as goal
 pub returns-then-lengths-i : goal.returns-then-lengths-i
 returns-then-lengths-i c = sym (ring_none _ _ _ c.if-lengths-i.true)
 
-pub offset_bounds-points-from : goal.offset_bounds-points-from
-offset_bounds-points-from c =
+pub offset_bounds-points-starts : goal.offset_bounds-points-starts
+offset_bounds-points-starts c =
     omega (arith, starts_ordered c.requires c.args.i c.if-lengths-i.false, starts_inside c.requires c.args.i c.if-lengths-i.false)
 
 pub slice_bounds-result-count : goal.slice_bounds-result-count

@@ -16,4 +16,4 @@ pub loop-i-preserved : goal.loop-i-preserved
 loop-i-preserved c = starting_on c.loop-i.invariant c.requires.0 c.loop-i-test.true refl
 
 pub returns : goal.returns
-returns c = starting_ends c.loop-i.invariant c.requires.0 c.loop-i-test.false
+returns c = starting_ends c.loop-i.invariant c.requires.0 (omega arith)

@@ -1,16 +1,11 @@
-use mathlib.Core.Path.{sym}
-use borrow.Author.Tests.{eq-eqb, ne_eqb}
-use Rattle.names.proofs.Laws.Bytes.{testing_start, all_goes_on, all_stops, all_ends}
+use Rattle.std.proofs.Common.{rules, ◌∙◌}
+use borrow.Author.Tests.{tests}
+use Rattle.std.proofs.lemmas.Iterator.{YieldsList-from_slice}
+use Rattle.std.proofs.lemmas.Iterator.Search.{all_from_yields_List}
+use Rattle.names.specs.Fields.{is_zero}
+use Rattle.names.proofs.Laws.Library.{all_is}
 use Rattle.names.proofs.fields.all_zero.Goals as goal
 
-pub loop-i-init : goal.loop-i-init
-loop-i-init c = testing_start _ _
-
-pub returns-then-bytes-i-ne0 : goal.returns-then-bytes-i-ne0
-returns-then-bytes-i-ne0 c = sym (all_stops c.loop-i.invariant c.loop-i-test.true (ne_eqb _ _ c.if-bytes-i-ne0.true))
-
-pub loop-i-preserved : goal.loop-i-preserved
-loop-i-preserved c = all_goes_on c.loop-i.invariant c.loop-i-test.true (eq-eqb _ _ c.if-bytes-i-ne0.false)
-
 pub returns : goal.returns
-returns c = sym (all_ends c.loop-i.invariant c.loop-i-test.false)
+returns c =
+    all_from_yields_List is_zero _ _ _ c.all.ensures.ran (YieldsList-from_slice c.args.bytes.now cc) (λ x b q k. search (rules, tests)) ∙ all_is is_zero c.args.bytes.now

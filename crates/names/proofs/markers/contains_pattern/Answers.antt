@@ -14,4 +14,4 @@ loop-at-preserved c =
     contains_goes_on c.loop-at.invariant c.loop-at-test.true (sym c.begins_with.ensures ∙ c.if-begins_with.false)
 
 pub returns : goal.returns
-returns c = sym (contains_ends c.loop-at.invariant c.loop-at-test.false)
+returns c = c.is_empty.ensures ∙ sym (contains_ends c.loop-at.invariant c.loop-at-test.false)

@@ -1,9 +1,9 @@
--- `geometry::boxes::Bbox::empty` meets its contract: a number over zero is an infinity. Assumes nothing.
+-- `geometry::boxes::Bbox::empty` meets its contract. Assumes nothing.
 use Rattle.std.proofs.Common.{refl}
-use lib.Ieee.{div, neg, of_bits}
+use lib.Ieee.{of_bits}
 use Rattle.geometry.specs.Boxes.{empty_box}
 use Rattle.geometry.proofs.boxes.Bbox.empty.Goals as goal
 
 pub returns : goal.returns
-unfolding empty_box div neg of_bits
+unfolding empty_box of_bits
 returns c = refl

@@ -1,7 +1,0 @@
--- `layout::door::admit_channel` meets its contract: the answers 2 to 5 are those of the layout and its marks. Assumes nothing.
-use mathlib.Core.Path.{ap, ◌∙◌}
-use Rattle.layout.specs.Answers.{admit_marked}
-use Rattle.layout.proofs.door.admit_channel.Goals as goal
-
-pub returns : goal.returns
-returns c = c.admit_marked.ensures ∙ ap (admit_marked _) c.short_channel-short.ensures
