@@ -6,6 +6,7 @@ use crate::number::size;
 use crate::ring::{Point, point_at};
 
 // a.x * b.y - b.x * a.y, for an edge from a to b.
+#[tactic(auto, unfolding(crate::specs::Area::cross_of))]
 fn cross(a: Point, b: Point) -> f64
     ensures { result ≡ cross_of a b }
 {
@@ -32,6 +33,7 @@ pub fn polygon_signed_area(ring: &[f64]) -> f64
 }
 
 // The area of a ring: the sign dropped.
+#[tactic(auto, unfolding(crate::specs::Area::area_of))]
 pub fn polygon_area(ring: &[f64]) -> f64
     ensures { result ≡ area_of ring.now }
 {

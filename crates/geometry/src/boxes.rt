@@ -20,18 +20,22 @@ impl Bbox {
     pub const GAP: f64 = 1e-12;
 
     // The box around no point: it takes on the first one that it is extended by.
+    pub const EMPTY: Self = Self {
+        min_x: f64::INFINITY,
+        min_y: f64::INFINITY,
+        max_x: f64::NEG_INFINITY,
+        max_y: f64::NEG_INFINITY,
+    };
+
+    // The same, and what it is.
     pub fn empty() -> Self
         ensures { result ≡ empty_box }
     {
-        Self {
-            min_x: f64::INFINITY,
-            min_y: f64::INFINITY,
-            max_x: f64::NEG_INFINITY,
-            max_y: f64::NEG_INFINITY,
-        }
+        Self::EMPTY
     }
 
     // Whether there is no point that the box could hold.
+    #[tactic(auto, unfolding(crate::specs::Boxes::is_empty))]
     pub fn is_empty(self) -> bool
         ensures { result ≡ is_empty self }
     {
@@ -39,6 +43,7 @@ impl Bbox {
     }
 
     // The box with one more point in it.
+    #[tactic(auto, unfolding(crate::specs::Boxes::extended))]
     pub fn extend_point(self, p: Point) -> Self
         ensures { result ≡ extended self p }
     {
@@ -51,6 +56,7 @@ impl Bbox {
     }
 
     // The box around the points of a ring.
+    #[tactic(auto, unfolding(crate::specs::Boxes::box_of_first, crate::specs::Boxes::box_of))]
     pub fn from_points(ring: &[f64]) -> Self
         ensures { result ≡ box_of ring.now }
     {
@@ -64,6 +70,7 @@ impl Bbox {
 }
 
 // The cell of a coordinate.
+#[tactic(auto, unfolding(crate::specs::Cells::cell_of))]
 pub fn cell(x: f64) -> i64
     ensures { result ≡ cell_of x }
 {
@@ -84,6 +91,7 @@ impl Cells {
     pub const SIDE: f64 = 4e-6;
 
     // The cells of a box, from its corners.
+    #[tactic(auto, unfolding(crate::specs::Cells::cells_of))]
     pub fn of_box(bounds: Bbox) -> Self
         ensures { result ≡ cells_of bounds }
     {

@@ -14,6 +14,7 @@ impl Point {
 }
 
 // Point i of a ring.
+#[tactic(auto, unfolding(crate::specs::Ring::point_at))]
 pub fn point_at(ring: &[f64], i: usize) -> Point
     requires { i < points_in ring.now }
     ensures { result ≡ point_at ring.now i }

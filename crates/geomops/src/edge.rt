@@ -5,6 +5,7 @@ ghost use Rattle.geomops.specs.Edge.{crossing_at, side_of, counted_sides};
 use geometry::Point;
 
 // Where the line through a and b is at height y.
+#[tactic(auto, unfolding(crate::specs::Edge::crossing_at))]
 pub fn crossing(a: Point, b: Point, y: f64) -> f64
     ensures { result ≡ crossing_at a b y }
 {
@@ -19,6 +20,7 @@ pub struct Side {
 }
 
 // On which side of the line at height y a point of height h is. What is at or below is not above, so most points take one test.
+#[tactic(auto, using(floats::proofs::Laws::Order::le_not_lt), unfolding(crate::specs::Edge::side_of))]
 pub fn side_at(h: f64, y: f64) -> Side
     ensures { result ≡ side_of h y }
 {
@@ -35,6 +37,7 @@ pub fn side_at(h: f64, y: f64) -> Side
 }
 
 // Whether an edge counts: one end at or below the line, the other strictly above.
+#[tactic(auto, unfolding(crate::specs::Edge::counted_sides))]
 pub fn counted(a: Side, b: Side) -> bool
     ensures { result ≡ counted_sides a b }
 {

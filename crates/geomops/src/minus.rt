@@ -8,6 +8,7 @@ ghost use Rattle.geomops.specs.Pieces.{is_apart, pieces_of};
 use crate::rects::{NoRoom, Rect};
 
 // Whether the interval from b0 to b1 lies beside r.
+#[tactic(auto, unfolding(crate::specs::Pieces::is_apart))]
 fn apart(b0: f64, b1: f64, r: Rect) -> bool
     ensures { result ≡ is_apart b0 b1 r }
 {

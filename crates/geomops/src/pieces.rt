@@ -58,6 +58,7 @@ fn push_spans(
 }
 
 // The crossings of the second ring at height y, none of a ring under 3 points, in front of xs; how many there are.
+#[tactic(auto, using(lists::proofs::Laws::Front::front_none), unfolding(crate::specs::Pieces::covered_at))]
 fn covered_at(b: &[f64], y: f64, xs: &mut [f64]) -> usize
     requires { points_in b.now ≤ length xs.old }
     ensures { Front (covered_at b.now y) xs.old xs.new result }
@@ -119,6 +120,7 @@ impl Rings<'_> {
 }
 
 // Whether the rings have points enough: the first at least 3, and for an intersection the second too.
+#[tactic(auto, unfolding(crate::specs::Pieces::enough))]
 fn has_pieces(op: Operation, na: usize, nb: usize) -> bool
     ensures { result ≡ enough op na nb }
 {

@@ -41,6 +41,7 @@ fn polygon_pieces(
 }
 
 // Writes a less b into out, as many rectangles as there is room for; how many there are, or that there is no room for all.
+#[tactic(auto, unfolding(crate::specs::Pieces::minus_rects))]
 pub fn polygon_minus_polygon(
     a: &[f64],
     b: &[f64],
@@ -64,6 +65,7 @@ pub fn polygon_minus_polygon(
 }
 
 // Writes what a and b share into out, as many rectangles as there is room for; how many there are, or that there is no room for all.
+#[tactic(auto, unfolding(crate::specs::Pieces::intersection_rects))]
 pub fn polygon_intersection_rects(
     a: &[f64],
     b: &[f64],

@@ -1,5 +1,5 @@
 // Rectangles, and lists of them: x0, y0, x1, y1 each.
-ghost use Rattle.std.specs.Prelude.{◌≡◌, [], ◌∷◌, ◌<◌, ◌≤◌, length};
+ghost use Rattle.std.specs.Prelude.{◌≡◌, Some, [], ◌∷◌, ◌<◌, ◌≤◌, codes, length};
 ghost use Rattle.lists.specs.Front.{Front};
 ghost use Rattle.geomops.specs.Rects.{area_of, ring_of, bbox_of, room_in, rect_at, rects_area, wide, Pushed};
 
@@ -20,6 +20,8 @@ pub struct Rect {
 pub struct NoRoom;
 
 impl fmt::Display for NoRoom {
+    ghost output = { λ _. Some (codes "no room") };
+
     fn fmt<W: fmt::Write>(&self, f: &mut fmt::Formatter<W>) -> fmt::Result {
         write!(f, "no room")
     }
@@ -29,6 +31,7 @@ impl Error for NoRoom {}
 
 impl Rect {
     // Width times height, each 0 where it is not above 0.
+    #[tactic(auto, unfolding(crate::specs::Rects::area_of))]
     pub fn area(self) -> f64
         ensures { result ≡ area_of self }
     {
@@ -36,6 +39,7 @@ impl Rect {
     }
 
     // Writes the five points, the first one again at the end, in front of ring.
+    #[tactic(auto, unfolding(crate::specs::Rects::ring_of))]
     pub fn to_ring(self, ring: &mut [f64])
         requires { 10 ≤ length ring.old }
         ensures { Front (ring_of self) ring.old ring.new 10 }
@@ -45,6 +49,7 @@ impl Rect {
     }
 
     // The rectangle as a box.
+    #[tactic(auto, unfolding(crate::specs::Rects::bbox_of))]
     pub fn bbox(self) -> Bbox
         ensures { result ≡ bbox_of self }
     {
@@ -81,6 +86,7 @@ impl Rect {
 }
 
 // Rectangle i of a list.
+#[tactic(auto, unfolding(crate::specs::Rects::rect_at))]
 pub fn rect_at(rects: &[f64], i: usize) -> Rect
     requires { i < room_in rects.now }
     ensures { result ≡ rect_at rects.now i }
@@ -95,6 +101,7 @@ pub fn rect_at(rects: &[f64], i: usize) -> Rect
 }
 
 // The area of all rectangles of a list.
+#[tactic(auto, unfolding(crate::specs::Rects::area_sum, crate::specs::Rects::rects_area))]
 pub fn rects_area(rects: &[f64]) -> f64
     ensures { result ≡ rects_area rects.now }
 {

@@ -1,7 +1,8 @@
 // The words of a line, parted by single spaces: names of kinds, whole numbers, floats and rings. Behind a line's end there are spaces.
-ghost use Rattle.std.specs.Prelude.{◌≡◌, ◌+◌, ◌*◌, ◌==◌, ◌<◌, ◌≤◌, not, length, drop, take_while, slice_index_or, IfSome};
+ghost use Rattle.std.specs.Prelude.{◌≡◌, ◌+◌, ◌*◌, ◌==◌, ◌<◌, not, min, length, drop, take_while, slice_index_or};
 ghost use Rattle.std.specs.List.{prefix_len};
 ghost use Rattle.std.specs.Slice.Iter.{iter_rest};
+ghost use Rattle.jobs.specs.Number.{number_of, behind_number};
 
 use std::marker::Model;
 use std::num::f64_from_bits_with_nan;
@@ -54,11 +55,13 @@ impl<'a> Words<'a> {
 
     // The whole number up to the next byte that is no digit, which is passed over; its last nine digits count.
     pub fn number(&mut self) -> usize
-        ensures { result < 1000000000 }
+        ensures low { result < 1000000000 }
+        ensures value { result ≡ number_of self.old }
+        ensures rest { self.new ≡ behind_number self.old }
     {
         let mut value = 0;
-        for d in self.bytes.by_ref().map_while(|b| digit(*b)) {
-            value = value % 100000000 * 10 + d;
+        while let Some(d) = char::from(self.byte()).to_digit(10) {
+            value = value % 100000000 * 10 + d as usize;
         }
         value
     }
@@ -86,7 +89,8 @@ impl<'a> Words<'a> {
 
     // Reads a ring, its number of points and then x and y of each, into the front of a list, as far as that has room.
     pub fn ring<'b>(&mut self, list: &'b mut [f64]) -> &'b [f64]
-        ensures { length result.now ≤ length list.old }
+        ensures size { length result.now ≡ min (length list.old) (2 * number_of self.old) }
+        ensures rest { self.new ≡ drop (17 * length result.now) (behind_number self.old) }
     {
         let size = list.len().min(2 * self.number());
         self.reals(&mut list[..size]);
@@ -101,17 +105,7 @@ fn word_length(line: &[u8]) -> usize
     line.iter().take_while(|b| **b != b' ').count()
 }
 
-// A decimal digit's value.
-fn digit(b: u8) -> Option<usize>
-    ensures { IfSome result (λ d. d < 10) }
-{
-    match b {
-        b'0'..=b'9' => Some(usize::from(b - b'0')),
-        _ => None,
-    }
-}
-
-// A hexadecimal digit's value; 0 for every other byte.
+// A hexadecimal digit's value; 0 for every other byte, where `to_digit` would also read A to F.
 fn hex_digit(b: u8) -> u64
     ensures { result < 16 }
 {

@@ -54,7 +54,7 @@ impl fmt::Write for Answer<'_> {
 }
 
 // A float, written as the 16 hexadecimal digits of its bits; of a NaN the usual ones.
-#[derive(Clone, Copy)]
+#[derive(Clone, Copy, Debug, PartialEq)]
 pub struct Bits(pub f64);
 
 impl fmt::Display for Bits {

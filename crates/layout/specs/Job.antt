@@ -41,8 +41,8 @@ layout_of l = record {
   points = l.points.now;
   lengths = l.lengths.now;
   layers = l.layers.now;
-  layer_numbers = l.layer_numbers.now;
-  layer_names = l.layer_names.now;
+  layer_numbers = l.layer_table.numbers.now;
+  layer_names = l.layer_table.names.now;
 }
 
 abbrev pub job_of : LentJob → Job
@@ -51,8 +51,8 @@ job_of j = record {
   conducting = j.conducting.now;
   via = j.via.now;
   stack = j.stack.now;
-  port_names = j.port_names.now;
-  port_points = j.port_points.now;
+  port_names = j.ports.names.now;
+  port_points = j.ports.points.now;
 }
 
 abbrev pub cut_job_of : LentCutJob → CutJob

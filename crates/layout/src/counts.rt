@@ -1,4 +1,4 @@
-// Counts of what comes in, and the tests of the answers 1, 2 and 3.
+// Counts of what comes in, and the tests of the answers 1, 2 and 3. The places of lists and counts are those of the table of answers.
 
 ghost use Rattle.std.specs.Prelude.{◌≡◌, eqb, length};
 ghost use Rattle.layout.specs.Rings.{total};

@@ -3,15 +3,17 @@
 ghost use Rattle.std.specs.Prelude.{◌≡◌, length};
 ghost use Rattle.layout.specs.Records.{layer_named, layer_allowed, pair_named, pair_allowed, stack_allowed, port_allowed, bad_layer, bad_pair, bad_stack, bad_port};
 
-use crate::counts::{layer_count, port_count};
+use crate::counts::port_count;
+use crate::job::LayerTable;
 use names::fields::Field;
 use names::tables::{layer_record, look_up, record_count};
 
 // Whether record k of the layer table has a number and an allowed name.
 #[tactic(auto, using(crate::proofs::Laws::Records::layer_short), unfolding(crate::specs::Records::layer_named))]
-fn layer_named(numbers: &[i16], names: &[u8], k: usize) -> bool
-    ensures { result ≡ layer_named numbers.now names.now k }
+fn layer_named(table: LayerTable, k: usize) -> bool
+    ensures { result ≡ layer_named table.entry.numbers.now table.entry.names.now k }
 {
+    let LayerTable { numbers, names } = table;
     k < numbers.len()
         && k < names.len() / 32
         && Field {
@@ -23,10 +25,10 @@ fn layer_named(numbers: &[i16], names: &[u8], k: usize) -> bool
 
 // Whether it is allowed: of twin numbers the later is not.
 #[tactic(auto, using(crate::proofs::Laws::Records::layer_there), unfolding(crate::specs::Records::layer_allowed))]
-fn layer_allowed(numbers: &[i16], names: &[u8], k: usize) -> bool
-    ensures { result ≡ layer_allowed numbers.now names.now k }
+fn layer_allowed(table: LayerTable, k: usize) -> bool
+    ensures { result ≡ layer_allowed table.entry.numbers.now table.entry.names.now k }
 {
-    layer_named(numbers, names, k) && layer_record(numbers, numbers[k]) == Some(k)
+    layer_named(table, k) && layer_record(table.numbers, table.numbers[k]) == Some(k)
 }
 
 // Whether both names of record k of a table of pairs are allowed.
@@ -74,10 +76,10 @@ fn port_allowed(names: &[u8], coordinates: usize, k: usize) -> bool
 // ---- the first of a table that is not allowed
 
 // Of the layer table.
-pub fn bad_layer(numbers: &[i16], names: &[u8]) -> Option<usize>
-    ensures { result ≡ bad_layer numbers.now names.now }
+pub fn bad_layer(table: LayerTable) -> Option<usize>
+    ensures { result ≡ bad_layer table.entry.numbers.now table.entry.names.now }
 {
-    (0..layer_count(numbers.len(), names.len())).find(|k| !layer_allowed(numbers, names, *k))
+    (0..table.count()).find(|k| !layer_allowed(table, *k))
 }
 
 // Of the conducting or the via map.

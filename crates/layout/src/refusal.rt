@@ -1,6 +1,7 @@
 // Why a call is refused, and where.
 
-ghost use Rattle.std.specs.Prelude.{◌≡◌};
+ghost use Rattle.std.specs.Prelude.{◌≡◌, ◌++◌, Some, codes};
+ghost use Rattle.std.specs.Fmt.{decimal};
 ghost use Rattle.layout.specs.Answers.{number_of, place_of, answer_number, answer_place};
 
 use std::error::Error;
@@ -18,7 +19,7 @@ pub enum Refusal {
 }
 
 impl Refusal {
-    // The number of this answer in the table.
+    // The number of this answer in the table of answers, which is what is printed.
     pub fn number(self) -> usize
         ensures { result ≡ number_of self }
     {
@@ -48,6 +49,8 @@ impl Refusal {
 }
 
 impl fmt::Display for Refusal {
+    ghost output = { λ r. Some (codes "refused: " ++ (decimal (number_of r) ++ (codes " at " ++ decimal (place_of r)))) };
+
     fn fmt<W: fmt::Write>(&self, f: &mut fmt::Formatter<W>) -> fmt::Result {
         let number = self.number();
         let place = self.place();

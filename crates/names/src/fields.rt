@@ -10,7 +10,7 @@ ghost use Rattle.names.specs.Fields.{visible, is_zero, allowed, name_of, name_al
 fn is_visible(b: u8) -> bool
     ensures { result ≡ visible b }
 {
-    0x21 <= b && b <= 0x7e
+    b.is_ascii_graphic()
 }
 
 // Whether a name may have each of these bytes.
@@ -60,7 +60,7 @@ pub fn name_or_absent(field: &[u8]) -> bool
 }
 
 // The field that starts at a byte of a table, as far as it is there.
-#[derive(Clone, Copy)]
+#[derive(Clone, Copy, Debug)]
 pub struct Field<'a> {
     pub table: &'a [u8],
     pub at: usize,
@@ -101,7 +101,8 @@ impl<'a> Field<'a> {
         self.bytes().is_some_and(|field| name_or_absent(field))
     }
 
-    // Whether two fields are the same: for allowed names exactly when the names are equal.
+    // Whether two fields are the same: for allowed names exactly when the names are equal. No `PartialEq`, since a field that is not wholly there
+    // is not the same as itself.
     #[tactic(auto, using(crate::proofs::Laws::Library::same_is), unfolding(crate::specs::Fields::same_field))]
     pub fn is_same(self, other: Field) -> bool
         ensures { result ≡ same_field self.entry.table.now self.entry.at other.entry.table.now other.entry.at }

@@ -8,6 +8,7 @@ ghost use Rattle.names.specs.Markers.{is_marker};
 use crate::fields::name_length;
 
 // Whether a name starts with a pattern.
+#[tactic(auto, using(crate::proofs::Laws::Library::begins_is))]
 fn begins_with(name: &[u8], pattern: &[u8]) -> bool
     ensures { result ≡ begins_with pattern.now name.now }
 {

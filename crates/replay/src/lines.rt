@@ -5,7 +5,8 @@ use crate::answers::answer;
 use jobs::writing::Answer;
 use std::io::{Read, Write};
 
-// Reads until a buffer is full or the input gives no more, at its end or by a failed read; how many bytes there are.
+// Reads until a buffer is full or the input gives no more, at its end or by a failed read; how many bytes there are. `read_exact` would lose what
+// came before such an end.
 fn read_full<R: Read>(source: &mut R, buffer: &mut [u8]) -> usize
     ensures { result ≤ length buffer.new }
 {

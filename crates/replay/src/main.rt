@@ -5,6 +5,7 @@
 use std::io;
 
 mod answers;
+mod items;
 mod lines;
 mod rings;
 mod tables;

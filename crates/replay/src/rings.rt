@@ -1,4 +1,5 @@
 // Jobs of one ring or two: intervals, bands, differences, intersections.
+use crate::items::put_list;
 use geomops::{
     NoRoom, Operation, Work, polygon_intersection_rects, polygon_minus_polygon, rects_area,
     ring_bands, x_intervals_at,
@@ -11,10 +12,7 @@ use std::fmt::Write;
 // How many there are, and then the numbers of a list, a space in front of each.
 fn put_reals(many: usize, list: &[f64], out: &mut Answer<'_>) -> fmt::Result {
     write!(out, "{many}")?;
-    for x in list {
-        write!(out, " {}", Bits(*x))?;
-    }
-    Ok(())
+    put_list(list.iter().map(|x| Bits(*x)), out)
 }
 
 // `intervals Y RING`: how many intervals a ring has at height y, and their ends.
@@ -63,6 +61,7 @@ pub fn answer_pieces(op: Operation, words: &mut Words<'_>, out: &mut Answer<'_>)
         xa: &mut xa,
         xb: &mut xb,
     };
+    // by the source's names, which are what is compared with it
     let made = match op {
         Operation::Minus => polygon_minus_polygon(a, b, &mut work, &mut rects),
         Operation::Intersection => polygon_intersection_rects(a, b, &mut work, &mut rects),

@@ -2,10 +2,11 @@
 ghost use Rattle.std.specs.Prelude.{◌<◌};
 ghost use Rattle.union_find.specs.Forest.{max_polygons};
 
+use crate::items::put_list;
 use jobs::words::Words;
 use jobs::writing::Answer;
 use std::fmt;
-use std::fmt::{Display, Write};
+use std::fmt::Write;
 use union_find::{Found, MAX_POLYGONS, Table, UnionFind};
 
 // The polygon of that number; the last one for a number that is none.
@@ -33,20 +34,12 @@ fn operate(
     Ok(table)
 }
 
-// The items of a list, a space in front of each.
-fn put_list<T: Display>(list: &[T], out: &mut Answer<'_>) -> fmt::Result {
-    for x in list {
-        write!(out, " {x}")?;
-    }
-    Ok(())
-}
-
 // A table: its parents and its ranks, each behind a slash.
 fn put_table(table: &Table, out: &mut Answer<'_>) -> fmt::Result {
     out.write_str("/")?;
-    put_list(&table.parent, out)?;
+    put_list(table.parent.iter(), out)?;
     out.write_str(" /")?;
-    put_list(&table.rank, out)
+    put_list(table.rank.iter(), out)
 }
 
 // `joins COUNT OP..`: the roots that were looked up, the parents, the ranks.

@@ -1,4 +1,5 @@
-// The parents of a table as a forest, changed in place: lookups, the shortening of a way, one root hung under another.
+// The parents of a table as a forest, changed in place: lookups, the shortening of a way, one root hung under another. Numbers become `u16` by
+// `as`, which is proved to keep them: `u16` has no `From<usize>`.
 ghost use Rattle.std.specs.Prelude.{◌≡◌, ◌<◌, ◌≤◌};
 ghost use Rattle.union_find.specs.Forest.{max_polygons, count_up, parent_of, root_of};
 ghost use Rattle.union_find.specs.Table.{rank_of, looked, linked, joined};
@@ -15,6 +16,7 @@ pub fn own_parents() -> [u16; MAX_POLYGONS]
 
 impl UnionFind {
     // The parent of x, a polygon too.
+    #[tactic(auto, using(crate::proofs::Laws::Forest::parent_read))]
     fn parent_of(&self, x: usize) -> usize
         requires { x < max_polygons }
         ensures parent { result ≡ parent_of self.now.table.parent x }
@@ -74,6 +76,7 @@ impl UnionFind {
 
 impl Table {
     // Joins the roots a and b: the lower rank goes under the higher, and at a tie b under a, whose rank rises by one.
+    #[tactic(auto, unfolding(crate::specs::Table::linked))]
     fn link(&mut self, a: usize, b: usize)
         requires { (a < max_polygons) × ((b < max_polygons) × (rank_of self.old.rank a ≤ 9)) }
         ensures { self.new ≡ linked self.old a b }

@@ -38,6 +38,7 @@ pub struct Found {
 
 impl UnionFind {
     // A table in which every polygon is a root.
+    #[tactic(auto, using(crate::proofs::Laws::Fresh::fresh_well), unfolding(crate::specs::Table::fresh))]
     pub fn new() -> Self
         ensures { result.table ≡ fresh }
     {
@@ -49,6 +50,7 @@ impl UnionFind {
     }
 
     // The root of x, and the table with every polygon on the way from x pointed at the root.
+    #[tactic(auto, using(crate::proofs::Laws::Ranks::looked_keeps))]
     pub fn find(mut self, x: usize) -> Found
         requires { x < max_polygons }
         ensures { (result.root ≡ root_of self.table.parent x) × ((result.table.table ≡ looked self.table x) × Keeps self.table result.table.table) }
@@ -58,6 +60,7 @@ impl UnionFind {
     }
 
     // The table in which the classes of a and b are one.
+    #[tactic(auto, using(crate::proofs::Laws::Joins::joined_unites))]
     pub fn union(mut self, a: usize, b: usize) -> Self
         requires { (a < max_polygons) × (b < max_polygons) }
         ensures { (result.table ≡ joined self.table a b) × Unites self.table a b result.table }

@@ -1,11 +1,10 @@
 -- The pieces of two rings: of a band, of all bands, and of rings under 3 points. Assumes nothing.
 use mathlib.Core.Path.{◌≡◌, ap}
-use Prim.Native.Nat.{◌≤◌, ◌<◌}
+use Prim.Native.Nat.{◌<◌}
 use mathlib.Core.Bool.{true, false}
 use mathlib.Core.List.{List, [], flat_map}
 use lib.ListN.{length}
 use lib.Ieee.{Float, le}
-use borrow.Author.Tests.{le-leb, lt-leb}
 use Rattle.lists.specs.All.{AllOf}
 use Rattle.floats.specs.Kinds.{is_number}
 use Rattle.geometry.specs.Ring.{points_in}
@@ -17,16 +16,6 @@ use Rattle.geomops.specs.Heights.{heights, thinned, neighbours, line_between}
 use Rattle.geomops.specs.Pieces.{rect_over, pieces_of, covered_at, band_pieces, enough, pieces_between, minus_rects, intersection_rects}
 use Rattle.geomops.proofs.Laws.Pairs.{paired_short}
 use Rattle.geomops.proofs.Laws.Heights.{bands_merged}
-
--- ---- the second ring, with points enough and without
-
-pub covered_some : (b : List Float) (y : Float) → 3 ≤ points_in b → covered_at b y ≡ sorted (crossings_at b y)
-unfolding covered_at
-covered_some b y h = rw (le-leb 3 (points_in b) h)
-
-pub covered_none : (b : List Float) (y : Float) → points_in b < 3 → covered_at b y ≡ []
-unfolding covered_at
-covered_none b y h = rw (lt-leb 3 (points_in b) h)
 
 -- ---- one band: flat, with no interval of the first ring, and with some
 

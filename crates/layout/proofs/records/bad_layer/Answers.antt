@@ -8,4 +8,4 @@ use Rattle.layout.proofs.records.bad_layer.Goals as goal
 pub returns : goal.returns
 unfolding bad_layer
 returns c =
-    rw (← c.layer_count.ensures) (range_searched (λ k. not (layer_allowed c.args.numbers.now c.args.names.now k)) c.layer_count.result _ _ c.find.result c.find.ensures.ran (λ x b q k. search (rules, tests)))
+    rw (← c.count.ensures) (range_searched (λ k. not (layer_allowed c.args.table.numbers.now c.args.table.names.now k)) c.count.result _ _ c.find.result c.find.ensures.ran (λ x b q k. search (rules, tests)))

@@ -1,0 +1,2 @@
+-- What is proved of `jobs`.
+pub mod Digits

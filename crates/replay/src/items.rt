@@ -1,0 +1,19 @@
+// The items of a list, written one behind the other.
+ghost use Rattle.std.specs.Iterator.{IsFinite};
+
+use jobs::writing::Answer;
+use std::fmt;
+use std::fmt::{Display, Write};
+
+// A space in front of each.
+pub fn put_list<T: Display + Drop, I: Iterator<Item = T>>(
+    items: I,
+    out: &mut Answer<'_>,
+) -> fmt::Result
+    requires { I.can_next items × IsFinite (I.remaining items) }
+{
+    for x in items {
+        write!(out, " {x}")?;
+    }
+    Ok(())
+}
