@@ -1,6 +1,5 @@
 -- Counts, and the tests of the answers 1, 2 and 3.
-use Rattle.std.specs.Prelude.{Option}
-use Rattle.std.specs.Prelude.{ℕ, ◌/◌, ◌%◌, max, Bool, not, ◌||◌, List, [], ◌∷◌, ◌++◌, ltb, eqb, length, get_or}
+use Rattle.std.specs.Prelude.{Option, ℕ, ◌/◌, ◌%◌, max, Bool, not, ◌||◌, List, [], ◌∷◌, ◌++◌, ltb, eqb, length, get_or}
 use Rattle.lists.specs.Scans.{first_in, first_true, clear}
 use Rattle.names.specs.Tables.{record_count}
 use Rattle.layout.specs.Bounds.{max_polygons, max_ring, max_points, max_records, connection_room, cut_coordinates, cut_rings, channel_coordinates}

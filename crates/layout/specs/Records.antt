@@ -1,6 +1,5 @@
 -- Answer 5: which records are allowed. Each is wholly there, with its names allowed; a key of the layer, conducting or via map is new.
-use Rattle.std.specs.Prelude.{Option, Some, None}
-use Rattle.std.specs.Prelude.{ℕ, ◌+◌, ◌*◌, ◌/◌, Bool, false, not, ◌&&◌, List, ltb, eqb, ℤ, pos, length, get_or}
+use Rattle.std.specs.Prelude.{Option, Some, None, ℕ, ◌+◌, ◌*◌, ◌/◌, Bool, false, not, ◌&&◌, List, ltb, eqb, ℤ, pos, length, get_or}
 use Rattle.lists.specs.Scans.{first_in}
 use Rattle.names.specs.Fields.{name_allowed, name_or_absent, field_at}
 use Rattle.names.specs.Tables.{record_count, look_up, layer_record}

@@ -38,6 +38,7 @@ impl<'a> Layout<'a> {
 
 // What is asked of an input, behind the lengths of its lent lists.
 trait Input: Copy {
+    // what the definitions say of it, in the order of the tests
     ghost over: { Self → Option ℕ };
 
     ghost uneven: { Self → Bool };
