@@ -12,7 +12,7 @@ use std::slice::Iter;
 const DIGITS: usize = 16;
 
 // What is left to be read of a line.
-#[derive(Drop)]
+#[derive(Clone, Drop)]
 pub struct Words<'a> {
     bytes: Iter<'a, u8>,
 }
@@ -33,6 +33,13 @@ impl<'a> Words<'a> {
         Words { bytes: line.iter() }
     }
 
+    // The bytes that are left.
+    pub fn rest(&self) -> &'a [u8]
+        ensures { result.now ≡ self.now }
+    {
+        self.bytes.as_slice()
+    }
+
     // The next byte.
     pub fn byte(&mut self) -> u8
         ensures value { result ≡ slice_index_or self.old 0 32 }
@@ -46,7 +53,7 @@ impl<'a> Words<'a> {
         ensures value { result.now ≡ take_while (λ b. not (b == 32)) self.old }
         ensures rest { self.new ≡ drop (length result.now + 1) self.old }
     {
-        let rest = self.bytes.as_slice();
+        let rest = self.rest();
         let (word, rest) = rest.split_at(word_length(rest));
         self.bytes = rest.iter();
         self.byte();

@@ -1,8 +1,9 @@
 // The answer to a job, written into memory that is lent.
-ghost use Rattle.std.specs.Prelude.{◌≡◌, [], length, IsOk, Some};
+ghost use Rattle.std.specs.Prelude.{◌≡◌, [], ◌∷◌, length, IsOk, Some};
 ghost use Rattle.jobs.specs.Text.{Text, put, sixteen_digits};
 ghost use lib.Ieee.{binary64, to_bits};
 
+use itoa::{Buffer, Integer};
 use std::fmt;
 use std::marker::Model;
 use std::num::f64_to_bits_with_nan;
@@ -37,6 +38,33 @@ impl<'a> Answer<'a> {
     {
         &self.out[..self.len]
     }
+
+    // Puts a byte behind those already there.
+    pub fn put_byte(&mut self, b: u8)
+        ensures { self.new ≡ put self.old (b ∷ []) }
+    {
+        if self.len < self.out.len() {
+            self.out[self.len] = b;
+            self.len += 1;
+        }
+    }
+
+    // The same of some bytes, which need be no text.
+    pub fn put_bytes(&mut self, bytes: &[u8])
+        ensures { self.new ≡ put self.old bytes.now }
+    {
+        let n = (self.out.len() - self.len).min(bytes.len());
+        self.out[self.len..self.len + n].copy_from_slice(&bytes[..n]);
+        self.len += n;
+    }
+
+    // The same of a whole number, in decimal; sooner than by `write!`.
+    pub fn put_number<N: Integer>(&mut self, n: N)
+        ensures { self.new ≡ put self.old (N.text n) }
+    {
+        let mut buffer = Buffer::new();
+        self.put_bytes(buffer.format(n).as_bytes());
+    }
 }
 
 impl fmt::Write for Answer<'_> {
@@ -46,9 +74,7 @@ impl fmt::Write for Answer<'_> {
         ensures ok { IsOk result → self.new ≡ put self.old text.now }
         ensures never_fails { IsOk result }
     {
-        let n = (self.out.len() - self.len).min(text.len());
-        self.out[self.len..self.len + n].copy_from_slice(&text.as_bytes()[..n]);
-        self.len += n;
+        self.put_bytes(text.as_bytes());
         Ok(())
     }
 }

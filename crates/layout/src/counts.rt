@@ -77,15 +77,18 @@ fn long_ring(lengths: &[usize]) -> Option<usize>
     lengths.iter().position(|n| *n > MAX_RING)
 }
 
-// The first count of a layout that is over its bound: polygons, points, one ring, layers.
+// The first count of a layout that is over its bound: polygons, points, one ring, layers. The rings are not searched where there are too many
+// of them or of points, since such a list may be of any length.
 #[tactic(auto, unfolding(crate::specs::Counts::over_layout))]
 pub fn over_layout(lengths: &[usize], coordinates: usize, layers: usize) -> Option<usize>
     ensures { result ≡ over_layout lengths.now coordinates layers }
 {
+    let polygons = lengths.len() > MAX_POLYGONS;
+    let points = coordinates / 2 > MAX_POINTS;
     [
-        lengths.len() > MAX_POLYGONS,
-        coordinates / 2 > MAX_POINTS,
-        long_ring(lengths).is_some(),
+        polygons,
+        points,
+        !polygons && !points && long_ring(lengths).is_some(),
         layers > MAX_RECORDS,
     ]
     .iter()

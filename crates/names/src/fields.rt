@@ -47,8 +47,12 @@ fn is_allowed(name: &[u8]) -> bool
 pub fn name_allowed(field: &[u8]) -> bool
     ensures { result ≡ name_allowed field.now }
 {
+    // a list of any length may stand for a field: only one of 32 bytes is searched
+    if field.len() != 32 {
+        return false;
+    }
     let (name, padding) = field.split_at(name_length(field));
-    field.len() == 32 && all_zero(padding) && is_allowed(name)
+    all_zero(padding) && is_allowed(name)
 }
 
 // Whether a field holds an allowed name, or is absent: 32 zeros.
@@ -114,13 +118,13 @@ impl<'a> Field<'a> {
     }
 
     // Whether one field comes before another: for allowed names exactly when the one name does, in byte order.
-    #[tactic(auto, using(crate::proofs::Laws::Library::before_is), unfolding(crate::specs::Fields::field_before))]
+    #[tactic(auto, using(crate::proofs::Laws::Library::less_is), unfolding(crate::specs::Fields::field_before))]
     pub fn is_before(self, other: Field) -> bool
         ensures { result ≡ field_before self.entry.table.now self.entry.at other.entry.table.now other.entry.at }
     {
         let (Some(a), Some(b)) = (self.bytes(), other.bytes()) else {
             return false;
         };
-        a < b
+        a.cmp(b).is_lt()
     }
 }

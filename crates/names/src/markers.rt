@@ -7,12 +7,18 @@ ghost use Rattle.names.specs.Markers.{is_marker};
 
 use crate::fields::name_length;
 
-// Whether a name starts with a pattern.
-#[tactic(auto, using(crate::proofs::Laws::Library::begins_is))]
+// Whether a name starts with a pattern: byte by byte, since at most places the first one decides.
+#[tactic(auto, unfolding(crate::specs::Bytes::begins_with))]
 fn begins_with(name: &[u8], pattern: &[u8]) -> bool
     ensures { result ≡ begins_with pattern.now name.now }
 {
-    name.starts_with(pattern)
+    let &[p, ref ps @ ..] = pattern else {
+        return true;
+    };
+    let &[x, ref xs @ ..] = name else {
+        return false;
+    };
+    p == x && begins_with(xs, ps)
 }
 
 // Whether a pattern stands anywhere in a name.

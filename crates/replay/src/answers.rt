@@ -16,9 +16,8 @@ fn answer_cell(words: &mut Words<'_>, out: &mut Answer<'_>) -> fmt::Result {
 }
 
 // `area RING`: the area of a ring.
-fn answer_area(words: &mut Words<'_>, out: &mut Answer<'_>) -> fmt::Result {
-    let mut room = [0.0; 1024];
-    let area = geometry::polygon_area(words.ring(&mut room));
+fn answer_area(words: &mut Words<'_>, room: &mut [f64], out: &mut Answer<'_>) -> fmt::Result {
+    let area = geometry::polygon_area(words.ring(room));
     write!(out, "{}", Bits(area))
 }
 
@@ -35,9 +34,8 @@ fn put_box(b: Bbox, out: &mut Answer<'_>) -> fmt::Result {
 }
 
 // `box RING`: the box around a ring, or `empty`.
-fn answer_box(words: &mut Words<'_>, out: &mut Answer<'_>) -> fmt::Result {
-    let mut room = [0.0; 1024];
-    let bounds = Bbox::from_points(words.ring(&mut room));
+fn answer_box(words: &mut Words<'_>, room: &mut [f64], out: &mut Answer<'_>) -> fmt::Result {
+    let bounds = Bbox::from_points(words.ring(room));
     if bounds.is_empty() {
         return out.write_str("empty");
     }
@@ -54,12 +52,12 @@ fn answer_marker(line: &[u8], out: &mut Answer<'_>) -> fmt::Result {
 }
 
 // The answer to a job that is one of the kinds above.
-fn answer_kind(line: &[u8], out: &mut Answer<'_>) -> fmt::Result {
+fn answer_kind(line: &[u8], room: &mut [f64], out: &mut Answer<'_>) -> fmt::Result {
     let mut words = Words::new(line);
     match words.word() {
         b"cell" => answer_cell(&mut words, out),
-        b"area" => answer_area(&mut words, out),
-        b"box" => answer_box(&mut words, out),
+        b"area" => answer_area(&mut words, room, out),
+        b"box" => answer_box(&mut words, room, out),
         b"intervals" => answer_intervals(&mut words, out),
         b"bands" => answer_bands(&mut words, out),
         b"minus" => answer_pieces(Operation::Minus, &mut words, out),
@@ -71,8 +69,8 @@ fn answer_kind(line: &[u8], out: &mut Answer<'_>) -> fmt::Result {
     }
 }
 
-// The answer to a job, ended by a line feed.
-pub fn answer(line: &[u8], out: &mut Answer<'_>) -> fmt::Result {
-    answer_kind(line, out)?;
+// The answer to a job, ended by a line feed. `room` is for one ring, lent for all jobs, so that it is cleared once.
+pub fn answer(line: &[u8], room: &mut [f64], out: &mut Answer<'_>) -> fmt::Result {
+    answer_kind(line, room, out)?;
     writeln!(out)
 }

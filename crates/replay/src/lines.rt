@@ -21,16 +21,16 @@ fn read_full<R: Read>(source: &mut R, buffer: &mut [u8]) -> usize
 }
 
 // Answers a line. A failed write is passed over.
-fn answer_line<W: Write>(sink: &mut W, line: &[u8], output: &mut [u8]) {
+fn answer_line<W: Write>(sink: &mut W, line: &[u8], room: &mut [f64], output: &mut [u8]) {
     let mut out = Answer::new(output);
-    let _ = answer(line, &mut out);
+    let _ = answer(line, room, &mut out);
     let _ = sink.write_all(out.written());
 }
 
 // Answers the lines of a text, one after the other.
-fn answer_lines<W: Write>(sink: &mut W, text: &[u8], output: &mut [u8]) {
+fn answer_lines<W: Write>(sink: &mut W, text: &[u8], room: &mut [f64], output: &mut [u8]) {
     for line in text.split(|b| *b == b'\n') {
-        answer_line(sink, line, output);
+        answer_line(sink, line, room, output);
     }
 }
 
@@ -42,6 +42,7 @@ pub fn answer_all<R: Read, W: Write>(
     source: &mut R,
     sink: &mut W,
     input: &mut [u8],
+    room: &mut [f64],
     output: &mut [u8],
 ) {
     let mut have = 0;
@@ -50,7 +51,7 @@ pub fn answer_all<R: Read, W: Write>(
         let Some(end) = input[..have].iter().rposition(|b| *b == b'\n') else {
             return;
         };
-        answer_lines(sink, &input[..end], output);
+        answer_lines(sink, &input[..end], room, output);
         input.copy_within(end + 1..have, 0);
         have -= end + 1;
     }

@@ -13,7 +13,8 @@ mod tables;
 fn main(rt: HostRuntime) {
     let mut input = [0u8; 196608];
     let mut output = [0u8; 196608];
+    let mut room = [0.0; 1024];
     let mut source = rt.reader();
     let mut sink = io::writer(&rt);
-    lines::answer_all(&mut source, &mut sink, &mut input, &mut output);
+    lines::answer_all(&mut source, &mut sink, &mut input, &mut room, &mut output);
 }

@@ -1,4 +1,4 @@
--- Negative zero, by equality with 0 and the sign. Assumes nothing.
+-- Negative zero, by equality with 0 and the sign that a division by it has. Assumes nothing.
 use mathlib.Core.Path.{◌≡◌, refl}
 use mathlib.Core.Bool.{true, false, or-true}
 use Prim.Native.Nat.{zero, suc, ◌*◌}
@@ -7,8 +7,7 @@ use native.Mathlib.Nat.{mul-pos, zero-lt-suc}
 use borrow.Author.Tests.{eq-eqb, ne_eqb}
 use lib.Dec.{eqb-suc-zero}
 use lib.Ieee.Fits.{up_pos}
-use lib.Ieee.{Float, nan, inf, fin, eq, of_bits, binary64, up, down}
-use Rattle.std.specs.Float.{is_sign_negative}
+use lib.Ieee.{Float, nan, inf, fin, lt, eq, div, of_bits, binary64, up, down}
 use Rattle.lists.proofs.Laws.Tests.{never, refuted}
 use Rattle.floats.specs.Kinds.{negative_zero}
 
@@ -16,8 +15,13 @@ use Rattle.floats.specs.Kinds.{negative_zero}
 abbrev pub nought : Float
 nought = of_bits binary64 0
 
-pub sign_of_zero : (x : Float) → eq x nought ≡ true → is_sign_negative x ≡ negative_zero x
-unfolding negative_zero eq of_bits is_sign_negative
+-- 1.0 as the code has it
+abbrev pub one : Float
+one = of_bits binary64 0x3ff0_0000_0000_0000
+
+-- 1 divided by a zero has its sign
+pub sign_of_zero : (x : Float) → eq x nought ≡ true → lt (div binary64 one x) nought ≡ negative_zero x
+unfolding negative_zero lt div eq of_bits
 sign_of_zero nan z = never z refl
 sign_of_zero (inf s) z = never z refl
 sign_of_zero (fin false zero e) z = refl

@@ -12,8 +12,9 @@ use Rattle.std.proofs.lemmas.Bool.Decides.{nat_tests}
 use Rattle.std.specs.List.{list_all, position, position_or_len, starts_with}
 use Rattle.std.specs.Option.{unwrap_or}
 use Rattle.std.specs.Ordering.{nat_cmp, is_lt, is_some_and}
-use Rattle.std.specs.Cmp.Lexicographic.{slice_partial_cmp}
-use Rattle.std.proofs.lemmas.Cmp.{same_from_slice_cmp_tested}
+use Rattle.std.specs.declared.cmp.Ordering.{Ordering}
+use Rattle.std.specs.Cmp.Lexicographic.{slice_cmp, slice_partial_cmp}
+use Rattle.std.proofs.lemmas.Cmp.{same_from_slice_cmp, same_from_slice_cmp_tested}
 use Rattle.names.specs.Bytes.{all, same_bytes, before, begins_with}
 use Rattle.names.specs.Fields.{is_zero, name_of}
 use Rattle.names.proofs.Laws.Fields.{name_within}
@@ -53,6 +54,10 @@ begins_is (p ∷ ps) (x ∷ xs) = go (eqb p x) (begins_is ps xs)
 pub before_is : (xs ys : List ℕ) (r : Bool) → r ≡ is_some_and is_lt (slice_partial_cmp (λ x y. Some (nat_cmp x y)) xs ys) → r ≡ before xs ys
 unfolding before
 before_is = same_from_slice_cmp_tested nat_cmp is_lt before refl (λ _ _. refl) (λ _ _. refl) (λ x y xs ys o h. grind (arith, nat_tests))
+
+pub less_is : (xs ys : List ℕ) (o : Ordering) → o ≡ slice_cmp nat_cmp xs ys → is_lt o ≡ before xs ys
+unfolding before
+less_is = same_from_slice_cmp nat_cmp is_lt before refl (λ _ _. refl) (λ _ _. refl) (λ x y xs ys o h. grind (arith, nat_tests))
 
 -- the name ends at the first zero, or with its field
 ends_at : (xs : List ℕ) → position_or_len is_zero xs ≡ length (name_of xs)

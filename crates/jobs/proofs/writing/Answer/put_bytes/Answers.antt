@@ -1,9 +1,9 @@
--- `jobs::writing::AnswerWrite::write_str` meets its contract. Assumes nothing.
+-- `jobs::writing::Answer::put_bytes` meets its contract. Assumes nothing.
 use Rattle.std.proofs.Common.{◌≡◌, ℕ, ◌+◌, ◌-◌, ◌≤◌, List, ◌++◌, length, take, min, sym, ◌∙◌, arith}
 use Rattle.std.proofs.Math.Seq.{take-append-add}
 use Rattle.std.proofs.lemmas.List.{length-take-le, take_at, take_min}
 use Rattle.jobs.specs.Text.{Text, put}
-use Rattle.jobs.proofs.writing.AnswerWrite.write_str.Goals as goal
+use Rattle.jobs.proofs.writing.Answer.put_bytes.Goals as goal
 use borrow.Rule.Slice.PartMut.{put_mid, post_of, mid_len, same_len_mid}
 
 -- The first n bytes of a text lie behind those that were there: that is what there is room for
@@ -40,6 +40,6 @@ text_put len n out text h e =
     let room = room_kept len n out text (omega arith) (omega arith) in
     rw (bytes, room)
 
-pub returns-clause-ok : goal.returns-clause-ok
-returns-clause-ok c _ =
-    rw (← c.self.view_is, c.copy_from_slice.ensures.after, c.as_bytes.ensures.value) (text_put _ _ _ _ c.self.invariant c.min-n.ensures)
+pub returns : goal.returns
+returns c =
+    rw (← c.self.view_is, c.copy_from_slice.ensures.after) (text_put _ _ _ _ c.self.invariant c.min-n.ensures)
