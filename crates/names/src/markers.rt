@@ -7,18 +7,19 @@ ghost use Rattle.names.specs.Markers.{is_marker};
 
 use crate::fields::name_length;
 
-// Whether a name starts with a pattern: byte by byte, since at most places the first one decides.
-#[tactic(auto, unfolding(crate::specs::Bytes::begins_with))]
+// Whether a name starts with a pattern. By hand, since `starts_with` compares all bytes and at most places the first one decides.
 fn begins_with(name: &[u8], pattern: &[u8]) -> bool
     ensures { result ≡ begins_with pattern.now name.now }
 {
-    let &[p, ref ps @ ..] = pattern else {
-        return true;
-    };
-    let &[x, ref xs @ ..] = name else {
+    if name.len() < pattern.len() {
         return false;
-    };
-    p == x && begins_with(xs, ps)
+    }
+    for i in 0..pattern.len() {
+        if pattern[i] != name[i] {
+            return false;
+        }
+    }
+    true
 }
 
 // Whether a pattern stands anywhere in a name.
